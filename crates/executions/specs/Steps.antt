@@ -1,0 +1,33 @@
+-- The steps of the analysis, as definitions. Document 01, section "Executions", "Steps"; report, section 2.4 and figure 2.
+--     M g s v x         == x is m(v): the least of −(sum of d) over paths from v to s. Where there is no such path no x is m(v)
+--     Lesser a b c      == c is the lesser of a and b
+--     U g s u           == u v is U(v) for every event v
+-- That u v is the greatest separation of v from s is proved in proofs/Latest.antt. Assumes nothing.
+use mathlib.Core.Path.{_≡_}
+use mathlib.Core.Logic.{_⊎_}
+use Prim.Native.Nat.{ℕ, _<_}
+use lib.IntN.{ℤ, pos, negℤ, _+ℤ_}
+use lib.Signed.{_≤ℤ_}
+use Rattle.graphs.specs.Graph.{Graph, rules, source, most, Greatest}
+use Rattle.graphs.specs.Path.{Path, leastSum}
+
+-- "m(v) is the least of −(sum of d) over paths from v to s; m(s) is 0, by the empty path"
+pub record M (g : Graph) (s v : ℕ) (x : ℤ) : Type 0 where
+  pub reached : (p : Path g v s) × (negℤ (leastSum p) ≡ x)
+  pub bound : (p : Path g v s) → x ≤ℤ negℤ (leastSum p)
+
+pub record Lesser (a b c : ℤ) : Type 0 where
+  pub left : c ≤ℤ a
+  pub right : c ≤ℤ b
+  pub one : (c ≡ a) ⊎ (c ≡ b)
+
+-- "U(root) = m(root). For other events …, U(v) is the lesser of m(v) and the greatest U(source) + D … Events with no path to s have no m"
+pub record UOf (g : Graph) (s : ℕ) (u : ℕ → ℤ) (v : ℕ) : Type 0 where
+  pub arrival : ℤ
+  pub arrival-greatest : Greatest g v (λ i. u (source g i) +ℤ most g i) arrival
+  pub with-m : (x : ℤ) → M g s v x → Lesser x arrival (u v)
+  pub without-m : (Path g v s → ⊥) → u v ≡ arrival
+
+pub record U (g : Graph) (s : ℕ) (u : ℕ → ℤ) : Type 0 where
+  pub root : M g s 0 (u 0)
+  pub others : (v : ℕ) → v < g .events → (v ≡ 0 → ⊥) → UOf g s u v

@@ -1,0 +1,1 @@
+// Event graphs: the definitions in specs/, their laws in proofs/. There is no code here.

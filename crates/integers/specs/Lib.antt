@@ -1,0 +1,2 @@
+-- Notions of whole numbers that the statements above rest on.
+pub mod Within

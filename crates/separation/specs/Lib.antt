@@ -1,0 +1,5 @@
+-- What the contracts of `separation` cite. A reader of its public promises needs Promise.antt alone; the others serve the functions within.
+pub mod Promise
+pub mod Links
+pub mod Order
+pub mod Passes

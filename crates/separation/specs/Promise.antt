@@ -1,0 +1,69 @@
+-- The promises of the public functions. Document 01, sections "Executions" and "Refusal numbers"; demands 1 and 2.
+--     MissingEnd g s t p        == refusal 4: "s or t doesn't exist", place "0 if s, else 1"
+--     ShortLists g times delays == a lent list is too short: "The time list needs n places, the delay list r places"
+--     Verdict g s t Short       == the refusals 1 to 6, in 01's order; Short says when a lent list is too short
+--     Answered g s t Short a    == a is the answer: the verdict's number and place, and the values where nothing is refused
+--     at xs v                   == what stands at place v of a list of times or delays
+--     Written g s a old new     == what the two lent lists hold, by the answer
+-- Assumes nothing.
+use mathlib.Core.Path.{_≡_}
+use mathlib.Core.Logic.{_⊎_}
+use mathlib.Core.List.{List}
+use Prim.Native.Nat.{ℕ, _<_, _≤_}
+use lib.IntN.{ℤ, pos}
+use lib.ListN.{length, getD, drop}
+use Rattle.graphs.specs.Graph.{Graph, rules}
+use Rattle.graphs.specs.Path.{HasCycle, Depth}
+use Rattle.graphs.specs.Limits.{EventGraph}
+use Rattle.graphs.specs.Refusal.{First, Accepted, AtZero, Lowest, CountsOutside, UnknownEvent, DelayOutside, Unreached}
+use Rattle.executions.specs.Separation.{Separation}
+use Rattle.executions.specs.Schedule.{Schedule}
+use Rattle.separation.specs.declared.Answer.{Answer}
+
+pub data MissingEnd (g : Graph) (s t : ℕ) : ℕ → Type 0 where
+  source-missing : g .events ≤ s → MissingEnd g s t 0
+  target-missing : s < g .events → g .events ≤ t → MissingEnd g s t 1
+
+abbrev pub ShortLists : Graph → List ℤ → List ℤ → Type 0
+ShortLists g times delays = (length times < g .events) ⊎ (length delays < rules g)
+
+-- "analysis 1, 2, 3, 4, … 5, 6"
+abbrev pub Verdict : Graph → ℕ → ℕ → Type 0 → ℕ → ℕ → Type 0
+Verdict g s t Short =
+    First 1 (AtZero (CountsOutside g ⊎ Short))
+    (First 2 (Lowest (UnknownEvent g))
+    (First 3 (Lowest (DelayOutside g))
+    (First 4 (MissingEnd g s t)
+    (First 5 (AtZero (HasCycle g))
+    (First 6 (Lowest (Unreached g)) Accepted)))))
+
+-- "the answer is the greatest t(t) − t(s) over all executions … An answer carries the depths of s and t"
+pub record Found (g : Graph) (s t : ℕ) (a : Answer) : Type 0 where
+  pub graph : EventGraph 1000000 g
+  pub greatest : Separation g s t (a .separation)
+  pub depth-of-source : Depth g s (a .«source_depth»)
+  pub depth-of-target : Depth g t (a .«target_depth»)
+
+-- "A refusal returns its number and place, separation 0, depths 0"
+pub record Nothing (a : Answer) : Type 0 where
+  pub no-separation : a .separation ≡ pos 0
+  pub no-source-depth : a .«source_depth» ≡ 0
+  pub no-target-depth : a .«target_depth» ≡ 0
+
+pub record Answered (g : Graph) (s t : ℕ) (Short : Type 0) (a : Answer) : Type 0 where
+  pub verdict : Verdict g s t Short (a .refusal) (a .place)
+  pub found : a .refusal ≡ 0 → Found g s t a
+  pub nothing : (a .refusal ≡ 0 → ⊥) → Nothing a
+
+abbrev pub at : List ℤ → ℕ → ℤ
+at xs v = getD xs v (pos 0)
+
+-- "places beyond keep what they held"; refused, "every lent list keeps its contents"
+pub record Written (g : Graph) (s : ℕ) (a : Answer) (times₀ delays₀ times delays : List ℤ) : Type 0 where
+  pub schedule : a .refusal ≡ 0 → Schedule g s (at delays) (at times)
+  pub times-beyond : a .refusal ≡ 0 → drop (g .events) times ≡ drop (g .events) times₀
+  pub delays-beyond : a .refusal ≡ 0 → drop (rules g) delays ≡ drop (rules g) delays₀
+  pub times-kept : (a .refusal ≡ 0 → ⊥) → times ≡ times₀
+  pub delays-kept : (a .refusal ≡ 0 → ⊥) → delays ≡ delays₀
+  pub times-length : length times ≡ length times₀
+  pub delays-length : length delays ≡ length delays₀
