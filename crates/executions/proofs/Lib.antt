@@ -1,0 +1,9 @@
+-- The theorems about executions.
+pub mod Rules
+pub mod Latest
+pub mod Readings
+pub mod Schedules
+pub mod Unique
+pub mod Times
+pub mod Nearness
+pub mod Sizes

@@ -1,0 +1,7 @@
+-- Laws of event graphs, for every crate above.
+pub mod Below
+pub mod Pigeonhole
+pub mod Cycle
+pub mod Paths
+pub mod Rank
+pub mod Greatest
