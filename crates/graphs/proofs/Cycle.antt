@@ -24,13 +24,13 @@ pub part-of : {g : Graph} {u v : ℕ} (p : Path g u v) (i j : ℕ) → i ≤ j �
 part-of p zero zero l k = (stay, omega arith)
 part-of stay zero (suc j) l k = absurd (let none : ⊥ = omega arith in none)
 part-of (step r h e f p) zero (suc j) l k =
-    let rest : (q : Path _ (eventAt p 0) (eventAt p j)) × (0 + steps q ≡ j) = part-of p 0 j zero-le (omega arith) in
-    (step r h e f (rest .0), omega (arith, rest .1))
+    let (q, its-steps) = part-of p 0 j zero-le (omega arith) in
+    (step r h e f q, omega (arith, its-steps))
 part-of p (suc i) zero l k = absurd (let none : ⊥ = omega arith in none)
 part-of stay (suc i) (suc j) l k = absurd (let none : ⊥ = omega arith in none)
 part-of (step r h e f p) (suc i) (suc j) l k =
-    let rest : (q : Path _ (eventAt p i) (eventAt p j)) × (i + steps q ≡ j) = part-of p i j (omega arith) (omega arith) in
-    (rest .0, omega (arith, rest .1))
+    let (q, its-steps) = part-of p i j (omega arith) (omega arith) in
+    (q, omega (arith, its-steps))
 
 -- a path from an event to the same event; the two stand as two, so that the path can be taken apart
 pub closed-cycle : {g : Graph} {u v : ℕ} (p : Path g u v) → u ≡ v → 0 < steps p → HasCycle g
@@ -42,21 +42,27 @@ closed-cycle {g} {u} {v} p e l =
 pub path-cycle : {g : Graph} {u v : ℕ} (p : Path g u v) → ((k : ℕ) → eventAt p k < g .events) → g .events ≤ steps p → HasCycle g
 path-cycle {g} p below long =
     let two : Twice (eventAt p) (g .events) = pigeonhole (g .events) (eventAt p) (λ k l. below k) in
-    let part : (q : Path g (eventAt p (two .former)) (eventAt p (two .latter))) × (two .former + steps q ≡ two .latter) =
-    part-of p (two .former) (two .latter) (omega arith) (omega arith) in
-    closed-cycle (part .0) (two .same) (omega (arith, part .1))
+    let (part, its-steps) = part-of p (two .former) (two .latter) (omega arith) (omega arith) in
+    closed-cycle part (two .same) (omega (arith, its-steps))
 
 -- every event on the way exists: a rule's source does, and the last event does
-eventAt-known : {g : Graph} → ((i : ℕ) → i < rules g → EndsKept g i) → {u v : ℕ} (p : Path g u v) → v < g .events → (k : ℕ) → eventAt p k < g .events
+eventAt-known :
+    {g : Graph} → ((i : ℕ) → i < rules g → EndsKept g i)
+    → {u v : ℕ} (p : Path g u v) → v < g .events → (k : ℕ) → eventAt p k < g .events
 eventAt-known kept stay l zero = l
 eventAt-known {g} kept (step i h e f p) l zero = subst (λ (x : ℕ). x < g .events) e (kept i h .source-known)
 eventAt-known kept stay l (suc k) = l
 eventAt-known kept (step i h e f p) l (suc k) = eventAt-known kept p l k
 
-pub long-path-cycle : (g : Graph) → ((i : ℕ) → i < rules g → EndsKept g i) → {u v : ℕ} (p : Path g u v) → v < g .events → g .events ≤ steps p → HasCycle g
+pub long-path-cycle :
+    (g : Graph) → ((i : ℕ) → i < rules g → EndsKept g i)
+    → {u v : ℕ} (p : Path g u v) → v < g .events → g .events ≤ steps p → HasCycle g
 long-path-cycle g kept p l long = path-cycle p (eventAt-known kept p l) long
 
 -- ---- going back
+
+-- From a left event one goes back along a rule to a left event, and so on: n rules back, the path is long enough to meet an event twice. Left events
+-- exist, so no more is asked of the other rules.
 
 module _ (g : Graph) (Left : ℕ → Type 0) where
   -- a path of k rules to v that starts in a left event, and all of whose events exist

@@ -7,14 +7,14 @@
 -- Assumes nothing.
 use mathlib.Core.Path.{_≡_, refl, sym}
 use mathlib.Core.Bool.{Bool, true, false}
-use Prim.Native.Nat.{ℕ, zero, suc, _≤_, _<_}
+use Prim.Native.Nat.{ℕ, zero, suc, _<_}
 use native.Mathlib.Decide.{ℕ-discrete}
 use native.Mathlib.Omega.{arith}
 use lib.IntN.{ℤ}
 use lib.Signed.{_≤ℤ_, leZ}
 use Rattle.integers.proofs.Integer.{linear}
 use Rattle.graphs.specs.Graph.{Graph, rules, source, target, Greatest}
-use Rattle.graphs.specs.Path.{Path, stay, step, steps}
+use Rattle.graphs.specs.Path.{Path}
 use Rattle.graphs.specs.Limits.{EventGraph}
 use Rattle.graphs.proofs.Below.{below-next}
 use Rattle.graphs.proofs.Paths.{along, steps-along, LastRule, no-last, last, last-rule}
@@ -29,13 +29,16 @@ data Best (g : Graph) (v : ℕ) (f : ℕ → ℤ) (r : ℕ) : Type 0 where
 module _ (g : Graph) (v : ℕ) (f : ℕ → ℤ) where
   one-more : (r : ℕ) → Best g v f r → Dec (target g r ≡ v) → Best g v f (suc r)
   one-more r (none no-rule) (no other) = none (below-next (λ i. target g i ≡ v → ⊥) r no-rule other)
-  one-more r (none no-rule) (yes to) = best r (omega arith) to (below-next (λ j. target g j ≡ v → f j ≤ℤ f r) r (λ j l e. absurd (no-rule j l e)) (λ e. omega linear))
-  one-more r (best i l to bound) (no other) = best i (omega arith) to (below-next (λ j. target g j ≡ v → f j ≤ℤ f i) r bound (λ e. absurd (other e)))
+  one-more r (none no-rule) (yes to) =
+      best r (omega arith) to (below-next (λ j. target g j ≡ v → f j ≤ℤ f r) r (λ j l e. absurd (no-rule j l e)) (λ e. omega linear))
+  one-more r (best i l to bound) (no other) =
+      best i (omega arith) to (below-next (λ j. target g j ≡ v → f j ≤ℤ f i) r bound (λ e. absurd (other e)))
   one-more r (best i l to bound) (yes new) = by (leZ (f r) (f i)) refl
     where
       by : (b : Bool) → leZ (f r) (f i) ≡ b → Best g v f (suc r)
       by true t = best i (omega arith) to (below-next (λ j. target g j ≡ v → f j ≤ℤ f i) r bound (λ e. omega linear))
-      by false t = best r (omega arith) new (below-next (λ j. target g j ≡ v → f j ≤ℤ f r) r (λ j k e. omega (linear, bound j k e)) (λ e. omega linear))
+      by false t =
+          best r (omega arith) new (below-next (λ j. target g j ≡ v → f j ≤ℤ f r) r (λ j k e. omega (linear, bound j k e)) (λ e. omega linear))
 
   best-below : (r : ℕ) → Best g v f r
   best-below zero = none (λ i l e. omega arith)
@@ -50,12 +53,16 @@ module _ (g : Graph) (v : ℕ) (f : ℕ → ℤ) where
 
 -- ---- and there is one only
 
-pub greatest-le : {g : Graph} {v : ℕ} {f h : ℕ → ℤ} {x y : ℤ} → Greatest g v f x → Greatest g v h y → ((i : ℕ) → i < rules g → target g i ≡ v → f i ≤ℤ h i) → x ≤ℤ y
+pub greatest-le :
+    {g : Graph} {v : ℕ} {f h : ℕ → ℤ} {x y : ℤ} → Greatest g v f x → Greatest g v h y
+    → ((i : ℕ) → i < rules g → target g i ≡ v → f i ≤ℤ h i) → x ≤ℤ y
 greatest-le a b le =
     let (i, l, to, same) = a .reached in
     omega (linear, le i l to, b .bound i l to)
 
-pub greatest-unique : {g : Graph} {v : ℕ} {f h : ℕ → ℤ} {x y : ℤ} → Greatest g v f x → Greatest g v h y → ((i : ℕ) → i < rules g → target g i ≡ v → f i ≡ h i) → x ≡ y
+pub greatest-unique :
+    {g : Graph} {v : ℕ} {f h : ℕ → ℤ} {x y : ℤ} → Greatest g v f x → Greatest g v h y
+    → ((i : ℕ) → i < rules g → target g i ≡ v → f i ≡ h i) → x ≡ y
 greatest-unique a b same =
     omega (linear, greatest-le a b (λ i l to. omega (linear, same i l to)), greatest-le b a (λ i l to. omega (linear, same i l to)))
 

@@ -5,3 +5,4 @@ pub mod Cycle
 pub mod Paths
 pub mod Rank
 pub mod Greatest
+pub mod Unique

@@ -6,15 +6,14 @@
 --     path-rank                  where each rule leads to a higher rank, a path has no more rules than the ranks of its ends allow
 --     ranked-acyclic             and there is no cycle
 --     acyclic-stays              without a cycle, a path from an event to itself is empty
---     leastSum-within            the sum lies within b for each rule of the path
+--     leastSum-within            where each least delay lies within b, the sum of a path lies within b times its number of rules
 -- Assumes nothing.
 use mathlib.Core.Path.{_≡_, refl, sym, ap, subst, _∙_}
-use Prim.Native.Nat.{ℕ, zero, suc, _+_, _*_, _≤_, _<_}
+use Prim.Native.Nat.{ℕ, suc, _+_, _*_, _≤_, _<_}
 use native.Mathlib.Nat.{mul-suc}
 use native.Mathlib.Decide.{decLt}
 use native.Mathlib.Omega.{arith}
-use lib.IntN.{ℤ, pos, _+ℤ_}
-use lib.Signed.{_≤ℤ_}
+use lib.IntN.{pos, _+ℤ_}
 use Rattle.integers.specs.Within.{Within}
 use Rattle.integers.proofs.Integer.{linear, sum, negation}
 use Rattle.integers.proofs.Word.{within-sum, within-wider}
@@ -40,7 +39,7 @@ leastSum-join {g} (step i h e f p) q =
       sum (leastSum p) (leastSum q),
       sum (least g i) (leastSum p),
       sum (least g i) (leastSum (join p q)),
-      sum (least g i +ℤ leastSum p) (leastSum q)
+      sum (least g i +ℤ leastSum p) (leastSum q),
     )
 
 -- ---- one more rule at the end
@@ -55,7 +54,11 @@ module _ {g : Graph} {u v w : ℕ} (p : Path g u v) (i : ℕ) (h : i < rules g) 
   pub leastSum-along : leastSum (along p i h e f) ≡ leastSum p +ℤ least g i
   leastSum-along =
       omega (
-        linear, leastSum-join p (step i h e f stay), sum (leastSum p) (least g i), sum (least g i) (pos 0), sum (leastSum p) (least g i +ℤ pos 0)
+        linear,
+        leastSum-join p (step i h e f stay),
+        sum (leastSum p) (least g i),
+        sum (least g i) (pos 0),
+        sum (leastSum p) (least g i +ℤ pos 0),
       )
 
 -- ---- a path with no rules
@@ -79,11 +82,15 @@ end-at {g} {u} {v} {w} e p = subst (λ (x : ℕ). (q : Path g u x) × (steps q �
 
 pub data FirstRule (g : Graph) (u w : ℕ) (p : Path g u w) : Type 0 where
   no-first : u ≡ w → steps p ≡ 0 → leastSum p ≡ pos 0 → FirstRule g u w p
-  first : (i : ℕ) → i < rules g → source g i ≡ u → (q : Path g (target g i) w) → steps p ≡ suc (steps q) → leastSum p ≡ least g i +ℤ leastSum q → FirstRule g u w p
+  first :
+      (i : ℕ) → i < rules g → source g i ≡ u → (q : Path g (target g i) w)
+      → steps p ≡ suc (steps q) → leastSum p ≡ least g i +ℤ leastSum q → FirstRule g u w p
 
 pub data LastRule (g : Graph) (u w : ℕ) (p : Path g u w) : Type 0 where
   no-last : u ≡ w → steps p ≡ 0 → leastSum p ≡ pos 0 → LastRule g u w p
-  last : (i : ℕ) → i < rules g → target g i ≡ w → (q : Path g u (source g i)) → steps p ≡ suc (steps q) → leastSum p ≡ leastSum q +ℤ least g i → LastRule g u w p
+  last :
+      (i : ℕ) → i < rules g → target g i ≡ w → (q : Path g u (source g i))
+      → steps p ≡ suc (steps q) → leastSum p ≡ leastSum q +ℤ least g i → LastRule g u w p
 
 pub first-rule : {g : Graph} {u w : ℕ} (p : Path g u w) → FirstRule g u w p
 first-rule stay = no-first refl refl refl
@@ -106,7 +113,7 @@ last-rule {g} {u} {w} (step {v = v} i h e f p) = behind (last-rule p)
           sum (least g i) (leastSum p),
           sum (leastSum q) (least g j),
           sum (least g i) (leastSum q),
-          sum (least g i +ℤ leastSum q) (least g j)
+          sum (least g i +ℤ leastSum q) (least g j),
         ))
 
 -- ---- ranks
@@ -123,8 +130,8 @@ module _ {g : Graph} (rank : ℕ → ℕ) (higher : (i : ℕ) → i < rules g �
 
 pub acyclic-stays : {g : Graph} → (HasCycle g → ⊥) → {v : ℕ} (p : Path g v v) → (steps p ≡ 0) × (leastSum p ≡ pos 0)
 acyclic-stays acyclic {v} p =
-  let none : steps p ≡ 0 = no-steps (decLt 0 (steps p)) in
-  (none, empty-sum p none)
+    let none : steps p ≡ 0 = no-steps (decLt 0 (steps p)) in
+    (none, empty-sum p none)
   where
     no-steps : Dec (0 < steps p) → steps p ≡ 0
     no-steps (yes l) = absurd (acyclic (v, p, l))
@@ -132,6 +139,9 @@ acyclic-stays acyclic {v} p =
 
 -- ---- the size of a sum
 
-pub leastSum-within : {g : Graph} {b : ℕ} → ((i : ℕ) → i < rules g → Within b (least g i)) → {u v : ℕ} (p : Path g u v) → Within (b * steps p) (leastSum p)
-leastSum-within {g} {b} within stay = record { above = omega (linear, negation (pos (b * 0))); below = omega linear }
-leastSum-within {g} {b} within (step i h e f p) = within-wider (omega (arith, mul-suc b (steps p))) (within-sum (within i h) (leastSum-within within p))
+pub leastSum-within :
+    {g : Graph} {b : ℕ} → ((i : ℕ) → i < rules g → Within b (least g i))
+    → {u v : ℕ} (p : Path g u v) → Within (b * steps p) (leastSum p)
+leastSum-within {b = b} within stay = record { above = omega (linear, negation (pos (b * 0))); below = omega linear }
+leastSum-within {b = b} within (step i h e f p) =
+    within-wider (omega (arith, mul-suc b (steps p))) (within-sum (within i h) (leastSum-within within p))

@@ -1,16 +1,16 @@
 -- A function from the numbers 0 to n to the numbers below n takes one value twice.
+--     Twice f n       f takes one value twice, at places from 0 to n
 --     pigeonhole      the two places, the lesser first
 -- The proof goes by induction on n, one more than m. If the value c at the last place stands at an earlier place too, these are the two places. If
 -- not, let every earlier place that has value m have value c instead: then the places 0 to m have values below m, and one value stands twice among
 -- them. No two different values became equal, since c itself stood at none of these places.
 -- Assumes nothing.
-use mathlib.Core.Path.{_≡_, refl, sym, _∙_}
+use mathlib.Core.Path.{_≡_, sym, _∙_}
 use Prim.Native.Nat.{ℕ, zero, suc, _≤_, _<_}
 use native.Mathlib.Decide.{ℕ-discrete}
 use native.Mathlib.Omega.{arith}
 use Rattle.graphs.proofs.Below.{below-next}
 
--- f takes one value twice, at places from 0 to n
 pub record Twice (f : ℕ → ℕ) (n : ℕ) : Type 0 where
   pub former : ℕ
   pub latter : ℕ
@@ -55,22 +55,25 @@ replaced-same m c x y (no e) (no f) h k same = same
 
 pub pigeonhole : (n : ℕ) (f : ℕ → ℕ) → ((k : ℕ) → k ≤ n → f k < n) → Twice f n
 pigeonhole zero f below = absurd (let none : ⊥ = omega (arith, below 0 (omega arith)) in none)
-pigeonhole (suc m) f below =
-    split (taken f (f (suc m)) (suc m)) (λ none. pigeonhole m changed (λ k l. replaced-below m (f (suc m)) (f k) (ℕ-discrete (f k) m) (below k (omega arith)) (below (suc m) (omega arith)) (none k (omega arith))))
+pigeonhole (suc m) f below = by (taken f c (suc m)) (λ none. pigeonhole m changed (λ k l. changed-below none k (omega arith)))
   where
-    changed : ℕ → ℕ
-    changed k = replaced m (f (suc m)) (f k) (ℕ-discrete (f k) m)
+    c : ℕ
+    c = f (suc m)
 
-    split : Taken f (f (suc m)) (suc m) → (((i : ℕ) → i < suc m → f i ≡ f (suc m) → ⊥) → Twice changed m) → Twice f (suc m)
-    split (at i l e) rest = record { former = i; latter = suc m; apart = l; within = omega arith; same = e }
-    split (nowhere none) rest =
-        let two : Twice changed m = rest none in
-        let l : two .latter < suc m = omega arith in
-        let k : two .former < suc m = omega arith in
+    changed : ℕ → ℕ
+    changed k = replaced m c (f k) (ℕ-discrete (f k) m)
+
+    changed-below : ((i : ℕ) → i < suc m → f i ≡ c → ⊥) → (k : ℕ) → k < suc m → changed k < m
+    changed-below none k l = replaced-below m c (f k) _ (below k (omega arith)) (below (suc m) (omega arith)) (none k l)
+
+    by : Taken f c (suc m) → (((i : ℕ) → i < suc m → f i ≡ c → ⊥) → Twice changed m) → Twice f (suc m)
+    by (at i l e) rest = record { former = i; latter = suc m; apart = l; within = omega arith; same = e }
+    by (nowhere none) rest =
+        let t : Twice changed m = rest none in
         record {
-          former = two .former;
-          latter = two .latter;
-          apart = two .apart;
+          former = t .former;
+          latter = t .latter;
+          apart = t .apart;
           within = omega arith;
-          same = replaced-same m (f (suc m)) (f (two .former)) (f (two .latter)) (ℕ-discrete (f (two .former)) m) (ℕ-discrete (f (two .latter)) m) (none (two .former) k) (none (two .latter) l) (two .same);
+          same = replaced-same m c _ _ _ _ (none (t .former) (omega arith)) (none (t .latter) (omega arith)) (t .same);
         }

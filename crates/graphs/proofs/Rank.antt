@@ -7,12 +7,12 @@
 -- for k of the sources of v's rules, each with its rule at the end, or the empty path where there is none. With no cycle every path to an event has fewer
 -- than n rules, so the height for n counts all paths, and its number of rules is the rank: a path to a rule's source goes on along the rule.
 -- Assumes nothing.
-use mathlib.Core.Path.{_≡_, refl, subst}
+use mathlib.Core.Path.{_≡_, refl}
 use Prim.Native.Nat.{ℕ, zero, suc, _≤_, _<_}
 use native.Mathlib.Decide.{decLt, ℕ-discrete}
 use native.Mathlib.Omega.{arith}
 use Rattle.graphs.specs.Graph.{Graph, rules, source, target}
-use Rattle.graphs.specs.Path.{Path, stay, step, steps, HasCycle}
+use Rattle.graphs.specs.Path.{Path, stay, steps, HasCycle}
 use Rattle.graphs.specs.Limits.{EndsKept}
 use Rattle.graphs.proofs.Below.{below-next}
 use Rattle.graphs.proofs.Cycle.{long-path-cycle}
@@ -31,15 +31,17 @@ record Found (g : Graph) (k v r : ℕ) : Type 0 where
 
 module _ (g : Graph) (k v : ℕ) (below : (u : ℕ) → Height g k u) where
   -- a path that serves for the rules below r, and for rule r, serves for those below r + 1
-  served : (r : ℕ) (b : Found g k v r) (u : ℕ) (p : Path g u v) → steps (b .path) ≤ steps p → (target g r ≡ v → steps (below (source g r) .path) < steps p) → Found g k v (suc r)
+  served :
+      (r : ℕ) (b : Found g k v r) (u : ℕ) (p : Path g u v)
+      → steps (b .path) ≤ steps p → (target g r ≡ v → steps (below (source g r) .path) < steps p) → Found g k v (suc r)
   served r b u p no-less more =
       record {
         from = u;
         path = p;
         bound =
-          below-next (λ i. target g i ≡ v → (t : ℕ) (q : Path g t (source g i)) → steps q ≤ k → steps q < steps p) r
-          (λ i l to t q few. omega (arith, b .bound i l to t q few))
-          (λ to t q few. omega (arith, more to, below (source g r) .bound t q few));
+            below-next (λ i. target g i ≡ v → (t : ℕ) (q : Path g t (source g i)) → steps q ≤ k → steps q < steps p) r
+            (λ i l to t q few. omega (arith, b .bound i l to t q few))
+            (λ to t q few. omega (arith, more to, below (source g r) .bound t q few));
       }
 
   found : (r : ℕ) → r ≤ rules g → Found g k v r
@@ -52,6 +54,7 @@ module _ (g : Graph) (k v : ℕ) (below : (u : ℕ) → Height g k u) where
         where
           h : Height g k (source g r)
           h = below (source g r)
+
           better : Dec (steps (h .path) < steps (b .path)) → Found g k v (suc r)
           better (yes less) = served r b (b .from) (b .path) (omega arith) (λ t. less)
           better (no more) =
@@ -85,5 +88,6 @@ module _ (g : Graph) (ends : (i : ℕ) → i < rules g → EndsKept g i) (acycli
           let p : Path g (h .from) (target g i) = along (h .path) i l refl refl in
           let few : steps p < g .events = short-path p (ends i l .target-known) in
           omega (arith, steps-along (h .path) i l refl refl, height g (g .events) (target g i) .bound (h .from) p (omega arith))
+
       known : (v : ℕ) → v < g .events → steps (height g (g .events) v .path) < g .events
       known v l = short-path (height g (g .events) v .path) l
