@@ -1,2 +1,7 @@
--- Laws that several functions' proofs cite.
+-- Laws that several functions' proofs cite, and the theorems about the promises.
 pub mod Walk
+pub mod Verdicts
+pub mod Promises
+pub mod Turn
+pub mod Deepest
+pub mod DepthPass

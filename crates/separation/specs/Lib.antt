@@ -3,3 +3,5 @@ pub mod Promise
 pub mod Links
 pub mod Order
 pub mod Passes
+pub mod Analysis
+pub mod Deepest

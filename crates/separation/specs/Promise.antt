@@ -1,7 +1,10 @@
 -- The promises of the public functions. Document 01, sections "Executions" and "Refusal numbers"; demands 1 and 2.
 --     MissingEnd g s t p        == refusal 4: "s or t doesn't exist", place "0 if s, else 1"
 --     ShortLists g times delays == a lent list is too short: "The time list needs n places, the delay list r places"
---     Verdict g s t Short       == the refusals 1 to 6, in 01's order; Short says when a lent list is too short
+--     InputVerdict g s t Short Rest == refusals 1 to 4, in 01's order, then Rest; Short says when a lent list is too short
+--     PathVerdict g             == refusals 5 and 6
+--     Verdict g s t Short       == the refusals 1 to 6
+--     Found g s t a, Nothing a  == the values of an answer that is none, and of one that is a refusal
 --     Answered g s t Short a    == a is the answer: the verdict's number and place, and the values where nothing is refused
 --     at xs v                   == what stands at place v of a list of times or delays
 --     Written g s a old new     == what the two lent lists hold, by the answer
@@ -27,19 +30,22 @@ pub data MissingEnd (g : Graph) (s t : ℕ) : ℕ → Type 0 where
 abbrev pub ShortLists : Graph → List ℤ → List ℤ → Type 0
 ShortLists g times delays = (length times < g .events) ⊎ (length delays < rules g)
 
--- "analysis 1, 2, 3, 4, … 5, 6"
+-- "analysis 1, 2, 3, 4, … 5, 6": the refusals of what is handed in, which leave the rest to Rest, and those of the paths
+abbrev pub InputVerdict : Graph → ℕ → ℕ → Type 0 → (ℕ → ℕ → Type 0) → ℕ → ℕ → Type 0
+InputVerdict g s t Short Rest =
+    First 1 (AtZero (CountsOutside g ⊎ Short)) (First 2 (Lowest (UnknownEvent g)) (First 3 (Lowest (DelayOutside g)) (First 4 (MissingEnd g s t) Rest)))
+
+abbrev pub PathVerdict : Graph → ℕ → ℕ → Type 0
+PathVerdict g = First 5 (AtZero (HasCycle g)) (First 6 (Lowest (Unreached g)) Accepted)
+
 abbrev pub Verdict : Graph → ℕ → ℕ → Type 0 → ℕ → ℕ → Type 0
-Verdict g s t Short =
-    First 1 (AtZero (CountsOutside g ⊎ Short))
-    (First 2 (Lowest (UnknownEvent g))
-    (First 3 (Lowest (DelayOutside g))
-    (First 4 (MissingEnd g s t)
-    (First 5 (AtZero (HasCycle g))
-    (First 6 (Lowest (Unreached g)) Accepted)))))
+Verdict g s t Short = InputVerdict g s t Short (PathVerdict g)
 
 -- "the answer is the greatest t(t) − t(s) over all executions … An answer carries the depths of s and t"
 pub record Found (g : Graph) (s t : ℕ) (a : Answer) : Type 0 where
   pub graph : EventGraph 1000000 g
+  pub source-known : s < g .events
+  pub target-known : t < g .events
   pub greatest : Separation g s t (a .separation)
   pub depth-of-source : Depth g s (a .«source_depth»)
   pub depth-of-target : Depth g t (a .«target_depth»)

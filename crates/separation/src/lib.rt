@@ -1,7 +1,6 @@
 // The greatest separation of two events of an event graph, exactly, with the schedule that reaches it.
-mod links;
-mod order;
-mod passes;
+mod answers;
+mod depths;
 
 // The answer to a question of separation. `refusal` is 0, or the number of document 01's table, with its place.
 pub struct Answer {
