@@ -5,3 +5,7 @@ pub mod Promises
 pub mod Turn
 pub mod Deepest
 pub mod DepthPass
+pub mod Lowest
+pub mod Filling
+pub mod Bits
+pub mod Searches

@@ -5,3 +5,5 @@ pub mod Order
 pub mod Passes
 pub mod Analysis
 pub mod Deepest
+pub mod Checks
+pub mod Lists

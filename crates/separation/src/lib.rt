@@ -1,6 +1,8 @@
 // The greatest separation of two events of an event graph, exactly, with the schedule that reaches it.
 mod answers;
+mod checks;
 mod depths;
+mod lists;
 
 // The answer to a question of separation. `refusal` is 0, or the number of document 01's table, with its place.
 pub struct Answer {

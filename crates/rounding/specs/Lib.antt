@@ -1,0 +1,2 @@
+-- Rounding outward to steps of q. Document 01, section "Coarse form".
+pub mod Rounding
