@@ -1,10 +1,12 @@
 -- Signed machine words. A local of the code holds bits, and `toZ w` reads the number back. Stated once for every width w.
 --     within-fits      a number between −b and b fits a width that holds b
 --     read-back        and its bits are read back as the number
---     within-sum, within-difference, within-wider     bounds of a sum, a difference, and a looser bound
+--     within-sum, within-difference, within-negation, within-wider     bounds of a sum, a difference, a negation, and a looser bound
+--     read-difference, difference-fits, difference-back     what the code forms of two words' bits is their difference; it fits, and its bits are read back
 -- Assumes nothing.
 use mathlib.Core.Path.{_≡_}
 use Prim.Native.Nat.{ℕ, suc, _+_, _<_, _≤_, _^_}
+use native.Mathlib.Omega.{arith}
 use lib.IntN.{ℤ, pos, negsuc, negℤ, _+ℤ_, _-ℤ_}
 use lib.Signed.{_≤ℤ_, mag}
 use mir.Syntax.{Width}
@@ -33,3 +35,23 @@ within-sum {a} {b} {x} {y} h k =
 pub within-difference : {a b : ℕ} {x y : ℤ} → Within a x → Within b y → Within (a + b) (x -ℤ y)
 within-difference {a} {b} {x} {y} h k =
     record { above = omega (linear, difference x y, negation (pos a), negation (pos b), negation (pos (a + b))); below = omega (linear, difference x y, negation (pos b)) }
+
+-- ---- a difference of two words, as the code forms it: both are read back from their bits
+pub read-difference : (w : Width) (a b : ℕ) (x y : ℤ) → a + b < 2 ^ hbits w → Within a x → Within b y → toZ w (ofZ w x) -ℤ toZ w (ofZ w y) ≡ x -ℤ y
+read-difference w a b x y l h k = rw (read-back w a x (omega arith) h, read-back w b y (omega arith) k)
+
+pub difference-fits : (w : Width) (a b : ℕ) (x y : ℤ) → a + b < 2 ^ hbits w → Within a x → Within b y → SFits w (toZ w (ofZ w x) -ℤ toZ w (ofZ w y))
+difference-fits w a b x y l h k = rw (read-difference w a b x y l h k) (within-fits w (a + b) (x -ℤ y) l (within-difference h k))
+
+pub difference-back : (w : Width) (a b : ℕ) (x y : ℤ) → a + b < 2 ^ hbits w → Within a x → Within b y → toZ w (ofZ w (toZ w (ofZ w x) -ℤ toZ w (ofZ w y))) ≡ x -ℤ y
+difference-back w a b x y l h k = rw (read-difference w a b x y l h k) (read-back w (a + b) (x -ℤ y) l (within-difference h k))
+
+pub within-negation : {a : ℕ} {x : ℤ} → Within a x → Within a (negℤ x)
+within-negation {a} {x} h = record { above = omega (linear, negation x, negation (pos a)); below = omega (linear, negation x, negation (pos a)) }
+
+-- what is said of two words read back is said of the numbers
+pub read-pair : (w : Width) (R : ℤ → ℤ → Type 0) (x y : ℤ) → mag x < 2 ^ hbits w → mag y < 2 ^ hbits w → R (toZ w (ofZ w x)) (toZ w (ofZ w y)) → R x y
+read-pair w R x y f g h =
+    let e : toZ w (ofZ w x) ≡ x = toZ-ofZ w x (record { sfits = f }) in
+    let k : toZ w (ofZ w y) ≡ y = toZ-ofZ w y (record { sfits = g }) in
+    rw (e, k) at h

@@ -7,5 +7,6 @@ pub mod Deepest
 pub mod DepthPass
 pub mod Lowest
 pub mod Filling
-pub mod Bits
 pub mod Searches
+pub mod Targets
+pub mod MPass

@@ -7,3 +7,5 @@ pub mod Analysis
 pub mod Deepest
 pub mod Checks
 pub mod Lists
+pub mod Targets
+pub mod Arrival

@@ -2,7 +2,9 @@
 mod answers;
 mod checks;
 mod depths;
+mod latest;
 mod lists;
+mod paths;
 
 // The answer to a question of separation. `refusal` is 0, or the number of document 01's table, with its place.
 pub struct Answer {

@@ -5,7 +5,8 @@ use lib.ListN.{length}
 use borrow.Author.Needs.{needs}
 use Rattle.graphs.specs.Refusal.{OutsideDelays}
 use Rattle.separation.specs.Checks.{InsideDelays, DelaysInside}
-use Rattle.separation.proofs.Bits.{read-pair}
+use mir.Syntax.{w64}
+use Rattle.integers.proofs.Word.{read-pair}
 use Rattle.separation.proofs.Lowest.{Passed, passed-none, passed-more, lowest-here, lowest-end, delays-inside, delays-are-outside}
 use Rattle.separation.proofs.checks.outside_delay.Statement.{statement}
 use Rattle.separation.proofs.checks.outside_delay.Tie as tie
@@ -45,7 +46,7 @@ returns c =
     _
     (b .before .loop .i)
     (b .before .loop .inv)
-    (delays-are-outside _ _ (b .before .loop .i) (b .loop-test .taken) (read-pair OutsideDelays _ _ d D (c .before .delays-outside .ensures .outside (c .if1 .taken))))
+    (delays-are-outside _ _ (b .before .loop .i) (b .loop-test .taken) (read-pair w64 OutsideDelays _ _ d D (c .before .delays-outside .ensures .outside (c .if1 .taken))))
 
 add-i : tie.Need-add-i Inv-loop μ-loop
 add-i c = omega arith
@@ -64,7 +65,7 @@ loop-again c =
     (b .before .loop .i)
     (b .before .loop .inv)
     (b .loop-test .taken)
-    (delays-inside _ _ (b .before .loop .i) (read-pair InsideDelays _ _ d D (c .before .delays-outside .ensures .inside (c .if1 .left))))
+    (delays-inside _ _ (b .before .loop .i) (read-pair w64 InsideDelays _ _ d D (c .before .delays-outside .ensures .inside (c .if1 .left))))
 
 returns-2 : tie.Need-returns-2 Inv-loop μ-loop
 returns-2 c = lowest-end _ _ _ (c .before .loop .i) (c .before .loop .inv) (c .loop-test .left)

@@ -3,7 +3,8 @@ use Prim.Native.Nat.{_-_}
 use native.Mathlib.Omega.{arith}
 use lib.Dec.{lit<}
 use Rattle.separation.specs.Lists.{TimeAt}
-use Rattle.separation.proofs.Bits.{subtract-fits, subtract-is}
+use mir.Syntax.{w64}
+use Rattle.integers.proofs.Word.{difference-fits, difference-back}
 use Rattle.separation.proofs.Filling.{Filling, filling-none, filling-more, filling-done}
 use Rattle.separation.proofs.lists.write_times.Statement.{statement}
 use Rattle.separation.proofs.lists.write_times.Tie as tie
@@ -29,7 +30,7 @@ shared-slice-copy-out-times c = omega arith
 sub-times : tie.Need-sub-times Inv-loop μ-loop
 sub-times c =
     let near = c .before .before .before .before .pre .1 in
-    subtract-fits 2050048000 _ _ (lit< tt) (near _ (c .before .loop-test .taken)) (near 0 (omega arith))
+    difference-fits w64 2050048000 2050048000 _ _ (lit< tt) (near _ (c .before .loop-test .taken)) (near 0 (omega arith))
 
 mul-t13 : tie.Need-mul-t13 Inv-loop μ-loop
 mul-t13 c = record { fits = omega arith }
@@ -56,7 +57,7 @@ loop-again c =
     (omega arith)
     (c .before .before .loop .inv)
     (c .before .loop-test .taken)
-    (subtract-is 2050048000 _ _ (lit< tt) (near _ (c .before .loop-test .taken)) (near 0 (omega arith)))
+    (difference-back w64 2050048000 2050048000 _ _ (lit< tt) (near _ (c .before .loop-test .taken)) (near 0 (omega arith)))
 
 same-length : tie.Need-same-length Inv-loop μ-loop
 same-length c = c .before .loop .inv .same-length
