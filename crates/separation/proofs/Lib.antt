@@ -10,3 +10,5 @@ pub mod Filling
 pub mod Searches
 pub mod Targets
 pub mod MPass
+pub mod Counting
+pub mod Placement

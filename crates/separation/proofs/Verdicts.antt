@@ -1,11 +1,12 @@
 -- Verdicts, put together from what the parts of the analysis find, and that an input has one verdict.
 --     input-1 … input-4-target     refusals 1 to 4, each from the facts that shut out the earlier ones
+--     refusal-checked, kept-checked    what check_input answers
 --     input-refused                a refusal of the input is given, whatever would come after
 --     input-passed                 where the input is kept, what comes after decides
 --     path-5, path-6, path-0       refusals 5 and 6, and that neither applies
 --     verdict-unique               two numbers and places that the verdict allows are equal
 -- Assumes nothing.
-use mathlib.Core.Path.{_≡_, refl}
+use mathlib.Core.Path.{_≡_, refl, sym, subst₂}
 use mathlib.Core.Logic.{_⊎_, ⊎-elim}
 use Prim.Native.Nat.{ℕ, _<_, _≤_}
 use native.Mathlib.Omega.{arith}
@@ -14,8 +15,9 @@ use Rattle.graphs.specs.Path.{HasCycle, Reachable}
 use Rattle.graphs.specs.Limits.{CountsKept, EndsKept, Sized}
 use Rattle.graphs.specs.Refusal.{First, given, passed, accepted, Lowest, CountsOutside, UnknownEvent, DelayOutside, Unreached}
 use Rattle.graphs.proofs.Unique.{lowest-unique, atZero-unique, first-unique, accepted-unique, counts-not-outside, ends-kept, delays-kept}
-use Rattle.separation.specs.Promise.{MissingEnd, source-missing, target-missing, InputVerdict, PathVerdict, Verdict}
-use Rattle.separation.specs.Analysis.{Never, InputKept}
+use Rattle.separation.specs.declared.Answer.{Answer}
+use Rattle.separation.specs.Promise.{MissingEnd, source-missing, target-missing, InputVerdict, PathVerdict, Verdict, Nothing}
+use Rattle.separation.specs.Analysis.{Never, InputKept, InputChecked}
 
 -- ---- refusals 1 to 4
 
@@ -37,6 +39,18 @@ first-more f (passed n r) = passed n (f r)
 module _ {g : Graph} {s t : ℕ} {Short : Type 0} where
   pub input-refused : {Rest : ℕ → ℕ → Type 0} {j p : ℕ} → InputVerdict g s t Short Never j p → InputVerdict g s t Short Rest j p
   input-refused v = first-more (first-more (first-more (first-more (λ none. absurd none)))) v
+
+  -- what check_input answers, by the refusal that it gives or by none
+  pub refusal-checked : (k p : ℕ) {a : Answer} → 0 < k → (a .refusal ≡ k) × (a .place ≡ p) × Nothing a → InputVerdict g s t Short Never k p → InputChecked g s t Short a
+  refusal-checked k p {a} positive r v =
+      record {
+        refused = λ _. subst₂ (InputVerdict g s t Short Never) (sym (r .0)) (sym (r .1)) v;
+        nothing = λ _. r .2;
+        kept = λ e. absurd (let no : ⊥ = omega (arith, r .0) in no);
+      }
+
+  pub kept-checked : {p : ℕ} {a : Answer} → (a .refusal ≡ 0) × (a .place ≡ p) × Nothing a → InputKept g s t Short → InputChecked g s t Short a
+  kept-checked r k = record { refused = λ n. absurd (n (r .0)); nothing = λ n. absurd (n (r .0)); kept = λ _. k }
 
   pub input-1 : CountsOutside g ⊎ Short → InputVerdict g s t Short Never 1 0
   input-1 h = given (record { zero-place = refl; holds = h })

@@ -26,7 +26,7 @@ module _ (keys heads nexts : List ℕ) (linked : Linked keys heads nexts) (v : �
       record {
         within = linked .heads-last v l .within;
         hit = linked .heads-last v l .hit;
-        seen = λ j h k e. absurd (linked .heads-last v l .none j h k e)
+        seen = λ j h k e. absurd (linked .heads-last v l .none j h k e);
       }
 
   pub walk-step : (i : ℕ) → Walk keys v (suc i) Q → Q i → Walk keys v (getD nexts i 0) Q
@@ -37,7 +37,7 @@ module _ (keys heads nexts : List ℕ) (linked : Linked keys heads nexts) (v : �
       record {
         within = omega (arith, last .within);
         hit = last .hit;
-        seen = λ j h k e. passed last j h k e (decLt j i) (decLt i j)
+        seen = λ j h k e. passed last j h k e (decLt j i) (decLt i j);
       }
     where
       passed : Last keys v i (getD nexts i 0) → (j : ℕ) → getD nexts i 0 ≤ j → j < length keys → getD keys j 0 ≡ v → Dec (j < i) → Dec (i < j) → Q j

@@ -9,3 +9,4 @@ pub mod Checks
 pub mod Lists
 pub mod Targets
 pub mod Arrival
+pub mod Placing
