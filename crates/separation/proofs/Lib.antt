@@ -12,3 +12,4 @@ pub mod Targets
 pub mod MPass
 pub mod Counting
 pub mod Placement
+pub mod Arranging

@@ -1,11 +1,20 @@
 // The analysis of a graph whose counts, events and delays are right: an order of the events, then one pass on for depths, one back for m and one on
 // for U. It serves the exact and the coarse form, so delays may pass 1,000,000 by 1,000.
+//     analyse            the whole of it
+//     arrange            the rules linked by source and by target, and the order
+//     analyse_arranged   the passes
+//     find_latest        those for m and U
 ghost use mathlib.Core.Path.{_≡_};
-ghost use Prim.Native.Nat.{ℕ, _<_};
-ghost use lib.ListN.{length};
+ghost use mathlib.Core.Bool.{true, false};
+ghost use mathlib.Core.List.{List};
+ghost use Prim.Native.Nat.{ℕ, _<_, _≤_};
+ghost use lib.IntN.{ℤ};
+ghost use lib.ListN.{length, replicate};
 ghost use Rattle.graphs.specs.Graph.{graphOf};
-ghost use Rattle.graphs.specs.Limits.{Sized};
-ghost use Rattle.separation.specs.Analysis.{Analysed};
+ghost use Rattle.graphs.specs.Path.{HasCycle};
+ghost use Rattle.graphs.specs.Limits.{Sized, EventGraph};
+ghost use Rattle.separation.specs.Passes.{EndsBelow};
+ghost use Rattle.separation.specs.Analysis.{Arranged, LatestFound, Analysed};
 use crate::Answer;
 use crate::answers::refused;
 use crate::checks::lowest_unreached;
@@ -14,6 +23,93 @@ use crate::latest::find_u;
 use crate::links::link;
 use crate::order::order_events;
 use crate::paths::find_m;
+
+// m and U, the latter into `latest`.
+fn find_latest(
+    n: usize,
+    sources: &[usize],
+    targets: &[usize],
+    leasts: &[i64],
+    mosts: &[i64],
+    heads_out: &[usize],
+    nexts_out: &[usize],
+    heads_in: &[usize],
+    nexts_in: &[usize],
+    order: &[usize],
+    s: usize,
+    latest: &mut [i64],
+)
+    requires { ⌜ EventGraph 1001000 (graphOf n (now sources) (now targets) (now leasts) (now mosts)) ⌝ }
+    requires { ⌜ Arranged n (now sources) (now targets) (now «heads_out») (now «nexts_out») (now «heads_in») (now «nexts_in») (now order) ⌝ }
+    requires { ⌜ (s < n) × (length (now latest) ≡ 1024) ⌝ }
+    ensures { λ _. ⌜ LatestFound (graphOf n (now (sources .entry)) (now (targets .entry)) (now (leasts .entry)) (now (mosts .entry))) s (now (latest .exit)) ⌝ }
+{
+    let mut found = [false; 1024];
+    let mut m = [0i64; 1024];
+    find_m(n, sources, targets, leasts, mosts, heads_out, nexts_out, order, s, &mut found, &mut m);
+    find_u(n, sources, targets, leasts, mosts, heads_in, nexts_in, order, s, &found, &m, latest);
+}
+
+// Links the rules by source and by target, and orders the events. False where the graph has a cycle.
+fn arrange(
+    n: usize,
+    sources: &[usize],
+    targets: &[usize],
+    heads_out: &mut [usize],
+    nexts_out: &mut [usize],
+    heads_in: &mut [usize],
+    nexts_in: &mut [usize],
+    order: &mut [usize],
+) -> bool
+    requires { ⌜ (1 ≤ n) × (n ≤ 1024) × (length (now sources) ≤ 4096) × (length (now targets) ≡ length (now sources)) ⌝ }
+    requires { ⌜ EndsBelow n (now sources) × EndsBelow n (now targets) ⌝ }
+    requires { ⌜ (now «heads_out» ≡ replicate 1024 0) × (length (now «nexts_out») ≡ 4096) ⌝ }
+    requires { ⌜ (now «heads_in» ≡ replicate 1024 0) × (length (now «nexts_in») ≡ 4096) × (length (now order) ≡ 1024) ⌝ }
+    ensures { λ r. ⌜ (r ≡ true → Arranged n (now (sources .entry)) (now (targets .entry)) (now («heads_out» .exit)) (now («nexts_out» .exit)) (now («heads_in» .exit)) (now («nexts_in» .exit)) (now (order .exit))) ⌝ }
+    ensures { λ r. ⌜ (r ≡ false → (ds Ds : List ℤ) → HasCycle (graphOf n (now (sources .entry)) (now (targets .entry)) ds Ds)) ⌝ }
+{
+    link(sources, heads_out, nexts_out);
+    link(targets, heads_in, nexts_in);
+    order_events(n, sources, targets, heads_out, nexts_out, order)
+}
+
+// Refusal 6, or the separation with both depths; then `latest` holds U of every event.
+fn analyse_arranged(
+    n: usize,
+    sources: &[usize],
+    targets: &[usize],
+    leasts: &[i64],
+    mosts: &[i64],
+    heads_out: &[usize],
+    nexts_out: &[usize],
+    heads_in: &[usize],
+    nexts_in: &[usize],
+    order: &[usize],
+    s: usize,
+    t: usize,
+    latest: &mut [i64],
+) -> Answer
+    requires { ⌜ Sized 1001000 (graphOf n (now sources) (now targets) (now leasts) (now mosts)) ⌝ }
+    requires { ⌜ Arranged n (now sources) (now targets) (now «heads_out») (now «nexts_out») (now «heads_in») (now «nexts_in») (now order) ⌝ }
+    requires { ⌜ (s < n) × (t < n) × (length (now latest) ≡ 1024) ⌝ }
+    ensures { λ r. ⌜ Analysed (graphOf n (now (sources .entry)) (now (targets .entry)) (now (leasts .entry)) (now (mosts .entry))) s t (now (latest .exit)) r ⌝ }
+{
+    let mut reached = [false; 1024];
+    let mut depth = [0usize; 1024];
+    find_depths(n, sources, targets, heads_in, nexts_in, order, &mut reached, &mut depth);
+    let unreached = lowest_unreached(n, &reached);
+    if unreached < n {
+        return refused(6, unreached);
+    }
+    find_latest(n, sources, targets, leasts, mosts, heads_out, nexts_out, heads_in, nexts_in, order, s, latest);
+    Answer {
+        refusal: 0,
+        place: 0,
+        separation: latest[t],
+        source_depth: depth[s],
+        target_depth: depth[t],
+    }
+}
 
 // Refusal 5 or 6, or the separation with both depths; then `latest` holds U of every event.
 pub(crate) fn analyse(
@@ -32,30 +128,11 @@ pub(crate) fn analyse(
 {
     let mut heads_out = [0usize; 1024];
     let mut nexts_out = [0usize; 4096];
-    link(sources, &mut heads_out, &mut nexts_out);
-    let mut order = [0usize; 1024];
-    if !order_events(n, sources, targets, &heads_out, &nexts_out, &mut order) {
-        return refused(5, 0);
-    }
     let mut heads_in = [0usize; 1024];
     let mut nexts_in = [0usize; 4096];
-    link(targets, &mut heads_in, &mut nexts_in);
-    let mut reached = [false; 1024];
-    let mut depth = [0usize; 1024];
-    find_depths(n, sources, targets, &heads_in, &nexts_in, &order, &mut reached, &mut depth);
-    let unreached = lowest_unreached(n, &reached);
-    if unreached < n {
-        return refused(6, unreached);
+    let mut order = [0usize; 1024];
+    if !arrange(n, sources, targets, &mut heads_out, &mut nexts_out, &mut heads_in, &mut nexts_in, &mut order) {
+        return refused(5, 0);
     }
-    let mut found = [false; 1024];
-    let mut m = [0i64; 1024];
-    find_m(n, sources, targets, leasts, mosts, &heads_out, &nexts_out, &order, s, &mut found, &mut m);
-    find_u(n, sources, targets, leasts, mosts, &heads_in, &nexts_in, &order, s, &found, &m, latest);
-    Answer {
-        refusal: 0,
-        place: 0,
-        separation: latest[t],
-        source_depth: depth[s],
-        target_depth: depth[t],
-    }
+    analyse_arranged(n, sources, targets, leasts, mosts, &heads_out, &nexts_out, &heads_in, &nexts_in, &order, s, t, latest)
 }

@@ -1,0 +1,45 @@
+-- Document 01's figures hold: one claim for all of them.
+--     figures-hold      every figure of specs/Figures.antt's list holds
+-- Each figure has its certificate: for every event its depth, its m where it has one, and its U. The tests of Certificate.antt compute that the
+-- certificate is right, and `passed` says that the figure then holds. Assumes nothing.
+use mathlib.Core.List.{List, [], _∷_}
+use Prim.Native.Nat.{ℕ}
+use lib.IntN.{ℤ, pos, negℤ}
+use Rattle.figures.specs.Figures.{P1, P2, P3, P4, P5, P6, P7, Holds, figures, AllHold}
+use Rattle.figures.proofs.Certificate.{Certificate, MaybeM}
+use Rattle.figures.proofs.Certificate.MaybeM.{absent, m-is}
+use Rattle.figures.proofs.Passed.{passed}
+
+abbrev certificate : List ℕ → List MaybeM → List ℤ → Certificate
+certificate depths ms us = record { depths = depths; ms = ms; us = us }
+
+-- m as it stands in the lists, above and below zero
+abbrev m : ℕ → MaybeM
+m n = m-is (pos n)
+
+abbrev m- : ℕ → MaybeM
+m- n = m-is (negℤ (pos n))
+
+P1-holds : Holds P1
+P1-holds = passed (certificate (0 ∷ []) (m 0 ∷ []) (pos 0 ∷ [])) P1 tt
+
+P2-holds : Holds P2
+P2-holds = passed (certificate (0 ∷ 1 ∷ 2 ∷ 2 ∷ []) (m- 1 ∷ m- 1 ∷ m 0 ∷ absent ∷ []) (negℤ (pos 1) ∷ negℤ (pos 1) ∷ pos 0 ∷ pos 6 ∷ [])) P2 tt
+
+P3-holds : Holds P3
+P3-holds = passed (certificate (0 ∷ 1 ∷ 1 ∷ 2 ∷ []) (m- 2 ∷ m 0 ∷ absent ∷ absent ∷ []) (negℤ (pos 2) ∷ pos 0 ∷ pos 1 ∷ pos 1 ∷ [])) P3 tt
+
+P4-holds : Holds P4
+P4-holds = passed (certificate (0 ∷ 1 ∷ 1 ∷ 2 ∷ []) (m- 1 ∷ absent ∷ m 0 ∷ absent ∷ []) (negℤ (pos 1) ∷ pos 4 ∷ pos 0 ∷ pos 4 ∷ [])) P4 tt
+
+P5-holds : Holds P5
+P5-holds = passed (certificate (0 ∷ 1 ∷ 1 ∷ 2 ∷ []) (m- 2 ∷ m 0 ∷ m 0 ∷ m 0 ∷ []) (negℤ (pos 2) ∷ pos 0 ∷ pos 0 ∷ pos 0 ∷ [])) P5 tt
+
+P6-holds : Holds P6
+P6-holds = passed (certificate (0 ∷ 1 ∷ []) (m 0 ∷ absent ∷ []) (pos 0 ∷ pos 5 ∷ [])) P6 tt
+
+P7-holds : Holds P7
+P7-holds = passed (certificate (0 ∷ 1 ∷ []) (m- 1 ∷ m 0 ∷ []) (negℤ (pos 1) ∷ pos 0 ∷ [])) P7 tt
+
+pub figures-hold : AllHold figures
+figures-hold = (P1-holds, (P2-holds, (P3-holds, (P4-holds, (P5-holds, (P6-holds, (P7-holds, tt)))))))

@@ -1,0 +1,6 @@
+-- The proof of document 01's figures.
+pub mod Tests
+pub mod Certificate
+pub mod Checked
+pub mod Passed
+pub mod Figures

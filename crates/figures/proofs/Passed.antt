@@ -1,0 +1,100 @@
+-- The test of a figure by a certificate, and that the figure holds where the test passes.
+--     graphPasses c g      the graph keeps 01's limits, and the certificate's depths are its depths
+--     stepsPass c g s      the certificate's m and U are those against s
+--     passes c f           the figure f is as the certificate has it
+--     passed               then it holds: the one law that every figure is proved by
+-- Assumes nothing.
+use mathlib.Core.Path.{subst}
+use mathlib.Core.Bool.{Bool, _&&_}
+use Prim.Native.Nat.{ℕ, _<_}
+use lib.IntN.{pos}
+use lib.ListN.{length, getD}
+use lib.Dec.{T, ltb, eqb, ltb→lt, eqb→eq}
+use Rattle.graphs.specs.Graph.{Graph, rules}
+use Rattle.graphs.specs.Path.{Depth}
+use Rattle.graphs.specs.Limits.{Sized, EventGraph}
+use Rattle.executions.specs.Separation.{Separation}
+use Rattle.executions.specs.Steps.{U}
+use Rattle.executions.proofs.Schedules.{schedule-of, separation-of}
+use Rattle.figures.specs.Figures.{Figure, Holds}
+use Rattle.figures.specs.Figures.Figure.{separation-is, depths-are, schedule-is, both}
+use Rattle.figures.proofs.Tests.{both-pass, eqZ, eqZ-passes}
+use Rattle.figures.proofs.Certificate.{Certificate, depthAt, mAt, uAt, keepsLimits, limits-kept, keepsDepths, Depths, depths-kept, keepsM, ms-kept, keepsU, us-kept, keepsSchedule, times-kept, delays-lesser}
+use Rattle.figures.proofs.Checked.{checked-graph, checked-depth, checked-u}
+
+abbrev pub graphPasses : Certificate → Graph → Bool
+graphPasses c g = keepsLimits 1000000 g && keepsDepths g (depthAt c)
+
+abbrev pub stepsPass : Certificate → Graph → ℕ → Bool
+stepsPass c g s = ltb s (g .events) && (keepsM g s (mAt c) && keepsU g (mAt c) (uAt c))
+
+abbrev pub passes : Certificate → Figure → Bool
+passes c (separation-is g s t x) = graphPasses c g && (stepsPass c g s && (ltb t (g .events) && eqZ (uAt c t) x))
+passes c (depths-are g s t a d) =
+    graphPasses c g && ((ltb s (g .events) && eqb (depthAt c s) a) && (ltb t (g .events) && eqb (depthAt c t) d))
+passes c (schedule-is g s times delays) =
+    graphPasses c g &&
+    (stepsPass c g s &&
+    ((eqb (length times) (g .events) && eqb (length delays) (rules g)) &&
+    keepsSchedule g (uAt c) (λ i. getD delays i (pos 0)) (λ v. getD times v (pos 0))))
+passes c (both f h) = passes c f && passes c h
+
+module _ (c : Certificate) (g : Graph) (t : T (graphPasses c g)) where
+  sized : Sized 1000000 g
+  sized = limits-kept 1000000 g (both-pass (keepsLimits 1000000 g) (keepsDepths g (depthAt c)) t .0)
+
+  depths : Depths g (depthAt c)
+  depths = depths-kept g (depthAt c) (both-pass (keepsLimits 1000000 g) (keepsDepths g (depthAt c)) t .1)
+
+  event-graph : EventGraph 1000000 g
+  event-graph = checked-graph sized depths
+
+  depth-is : (v k : ℕ) → T (ltb v (g .events) && eqb (depthAt c v) k) → Depth g v k
+  depth-is v k tv =
+      let (known, same) = both-pass (ltb v (g .events)) _ tv in
+      subst (Depth g v) (eqb→eq (depthAt c v) k same) (checked-depth sized depths v (ltb→lt v (g .events) known))
+
+  module _ (s : ℕ) (ts : T (stepsPass c g s)) where
+    source-event : s < g .events
+    source-event = ltb→lt s (g .events) (both-pass (ltb s (g .events)) _ ts .0)
+
+    u-is : U g s (uAt c)
+    u-is =
+        let (known, both-steps) = both-pass (ltb s (g .events)) _ ts in
+        let (m, u) = both-pass (keepsM g s (mAt c)) _ both-steps in
+        checked-u sized depths (ms-kept g s (mAt c) m) (us-kept g (mAt c) (uAt c) u)
+
+pub passed : (c : Certificate) (f : Figure) → T (passes c f) → Holds f
+passed c (separation-is g s t x) p =
+    let (tg, rest) = both-pass (graphPasses c g) _ p in
+    let (ts, tx) = both-pass (stepsPass c g s) _ rest in
+    let (known, same) = both-pass (ltb t (g .events)) _ tx in
+    let target-event : t < g .events = ltb→lt t (g .events) known in
+    record {
+      event-graph = event-graph c g tg;
+      source-event = source-event c g tg s ts;
+      target-event = target-event;
+      separation =
+          subst (Separation g s t) (eqZ-passes (uAt c t) x same)
+          (separation-of (event-graph c g tg) (depthAt c) (depths c g tg .grows) (source-event c g tg s ts) (u-is c g tg s ts) t target-event);
+    }
+passed c (depths-are g s t a d) p =
+    let (tg, rest) = both-pass (graphPasses c g) _ p in
+    let (da, dd) = both-pass (ltb s (g .events) && eqb (depthAt c s) a) _ rest in
+    record { source-depth = depth-is c g tg s a da; target-depth = depth-is c g tg t d dd }
+passed c (schedule-is g s times delays) p =
+    let (tg, rest) = both-pass (graphPasses c g) _ p in
+    let (ts, lists) = both-pass (stepsPass c g s) _ rest in
+    let (lengths, kept) = both-pass (eqb (length times) (g .events) && eqb (length delays) (rules g)) _ lists in
+    let (n-times, n-delays) = both-pass (eqb (length times) (g .events)) _ lengths in
+    record {
+      a-time-each = eqb→eq (length times) (g .events) n-times;
+      a-delay-each = eqb→eq (length delays) (rules g) n-delays;
+      schedule =
+          schedule-of (event-graph c g tg) (depthAt c) (depths c g tg .grows) (source-event c g tg s ts) (u-is c g tg s ts)
+          (times-kept g (uAt c) (λ i. getD delays i (pos 0)) (λ v. getD times v (pos 0)) kept)
+          (delays-lesser g (uAt c) (λ i. getD delays i (pos 0)) (λ v. getD times v (pos 0)) kept);
+    }
+passed c (both f h) p =
+    let (first, second) = both-pass (passes c f) _ p in
+    (passed c f first, passed c h second)

@@ -1,0 +1,2 @@
+-- Document 01's proved figures, as statements about graphs and executions.
+pub mod Figures

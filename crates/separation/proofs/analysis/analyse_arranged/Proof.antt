@@ -1,0 +1,152 @@
+-- `separation::analysis::analyse_arranged` meets its contract: what the passes promise, put together. Assumes nothing.
+use mathlib.Core.Path.{_≡_, refl, sym, subst, _∙_}
+use Prim.Native.Nat.{ℕ, _<_}
+use native.Mathlib.Omega.{arith}
+use mathlib.Core.List.{List}
+use lib.Dec.{lit<}
+use lib.ListN.{length, getD}
+use mir.Syntax.{w64}
+use denote.Ref.{now}
+use borrow.Author.Needs.{needs}
+use Rattle.graphs.specs.Graph.{Graph, graphOf}
+use Rattle.graphs.specs.Path.{Depth}
+use Rattle.graphs.specs.Limits.{EventGraph}
+use Rattle.integers.proofs.Word.{read-back}
+use Rattle.separation.proofs.Arranging.{sources-below, targets-below, arranged-acyclic, path-refused, path-computed}
+use Rattle.separation.proofs.Verdicts.{path-6}
+use Rattle.separation.proofs.Searches.{all-good, lowest-not-reached, all-reached}
+use Rattle.separation.proofs.analysis.analyse_arranged.Statement.{statement}
+use Rattle.separation.proofs.analysis.analyse_arranged.Tie as tie
+use Rattle.separation.proofs.analysis.analyse_arranged.Reads as reads
+use Rattle.separation.proofs.analysis.analyse_arranged.Lts as lts
+use Rattle.separation.proofs.analysis.find_latest.Reads as find-latest-reads
+use Rattle.separation.proofs.answers.refused.Reads as refused-reads
+use Rattle.separation.proofs.checks.lowest_unreached.Reads as lowest-unreached-reads
+use Rattle.separation.proofs.depths.find_depths.Reads as find-depths-reads
+
+-- the depth of v stands in a list
+abbrev DepthAt : Graph → List ℕ → ℕ → Type 0
+DepthAt g depth v = Depth g v (getD depth v 0)
+
+abbrev graph : tie.Start → Graph
+graph a = graphOf (a .args .n) (now (a .args .sources)) (now (a .args .targets)) (now (a .args .leasts)) (now (a .args .mosts))
+
+-- past the search for an unreached event the graph is an event graph
+event-graph : (c : tie.Else1) → EventGraph 1001000 (graph (c .before .before .before .before .before .before .before .before .before .before .before .before .before .before .before))
+event-graph c =
+    let start = c .before .before .before .before .before .before .before .before .before .before .before .before .before .before .before in
+    record {
+      sized = start .pre .0;
+      acyclic = arranged-acyclic (start .pre .1 .0);
+      reachable = all-reached (c .before .before .before .before .before .find-depths .ensures (now (start .args .leasts)) (now (start .args .mosts))) (c .before .lowest-unreached .ensures) (c .if1 .left);
+    }
+
+-- ---- at the end: both events are known, U is small, and both depths are found
+
+module _ (c : tie.After-latest) where
+  abbrev start : tie.Start
+  start = c .before .before .before .before .before .before .before .before .before .before .before .before .before .before .before .before .before .before
+
+  s-below : start .args .s < 1024
+  s-below = omega (arith, start .pre .0 .counts .few-events, start .pre .1 .1 .0)
+
+  t-below : start .args .t < 1024
+  t-below = omega (arith, start .pre .0 .counts .few-events, start .pre .1 .1 .1)
+
+  reached : (v : ℕ) → v < start .args .n → DepthAt (graph start) (c .before .before .before .before .before .before .before .before .find-depths .last .1 .1 .1 .1 .1 .1 .1 .0) v
+  reached v h =
+      c .before .before .before .before .before .before .before .before .find-depths .ensures (now (start .args .leasts)) (now (start .args .mosts)) v h .yes-depth
+      (all-good (c .before .before .before .before .lowest-unreached .ensures) (c .before .before .before .if1 .left) v h)
+
+slice-aggregate-find-depths : tie.Need-slice-aggregate-find-depths
+slice-aggregate-find-depths c = search needs
+
+slice-aggregate-find-depths-2 : tie.Need-slice-aggregate-find-depths-2
+slice-aggregate-find-depths-2 c = search needs
+
+find-depths-requires : tie.Need-find-depths-requires
+find-depths-requires c κs =
+    let start = c .before .before .before .before .before .before .before .before .before in
+    let counts = start .pre .0 .counts in
+    let arranged = start .pre .1 .0 in
+    ((counts .some-event, counts .few-events, counts .few-rules, counts .targets-match),
+      ((sources-below (start .pre .0), targets-below (start .pre .0)),
+        ((arranged .by-target .linked, arranged .by-target .heads-long, arranged .by-target .nexts-long),
+          (((arranged .rank, arranged .ordered), arranged .order-long), (refl {a = 1024}, refl {a = 1024})))))
+
+slice-aggregate-lowest-unreached : tie.Need-slice-aggregate-lowest-unreached
+slice-aggregate-lowest-unreached c = search needs
+
+lowest-unreached-requires : tie.Need-lowest-unreached-requires
+lowest-unreached-requires c κs = search needs
+
+refused-requires : tie.Need-refused-requires
+refused-requires c κs = search needs
+
+returns : tie.Need-returns
+returns c =
+    let start = c .before .before .before .before .before .before .before .before .before .before .before .before .before .before .before .before in
+    path-refused 6 _ (omega arith) (c .refused .ensures)
+    (path-6 (arranged-acyclic (start .pre .1 .0))
+    (lowest-not-reached (c .before .before .before .before .before .before .find-depths .ensures (now (start .args .leasts)) (now (start .args .mosts))) (c .before .before .lowest-unreached .ensures) (c .before .if1 .taken)))
+
+find-latest-requires : tie.Need-find-latest-requires
+find-latest-requires c κs =
+    let start = c .before .before .before .before .before .before .before .before .before .before .before .before .before .before .before .before in
+    (event-graph (c .before), (start .pre .1 .0, (start .pre .1 .1 .0, start .pre .1 .1 .2)))
+
+mul-t27 : tie.Need-mul-t27
+mul-t27 c = record { fits = omega (arith, t-below c) }
+
+slice-copy-out-t29 : tie.Need-slice-copy-out-t29
+slice-copy-out-t29 c = omega (arith, t-below c, c .before .find-latest .kept .1 .1 .1 .1 .1 .1 .1 .1 .1 .1 .1 .0, start c .pre .1 .1 .2)
+
+mul-t30 : tie.Need-mul-t30
+mul-t30 c = record { fits = omega (arith, s-below (c .before)) }
+
+array-read-t33 : tie.Need-array-read-t33
+array-read-t33 c = s-below (c .before)
+
+mul-t34 : tie.Need-mul-t34
+mul-t34 c = record { fits = omega (arith, t-below (c .before)) }
+
+array-read-t37 : tie.Need-array-read-t37
+array-read-t37 c = t-below (c .before)
+
+same-length : tie.Need-same-length
+same-length c = search needs
+
+returns-2 : tie.Need-returns-2
+returns-2 c =
+    let begin = start (c .before) in
+    let found = c .before .before .find-latest .ensures in
+    path-computed refl refl
+    (record {
+      acyclic = event-graph (c .before .before .before .before) .acyclic;
+      reachable = event-graph (c .before .before .before .before) .reachable;
+      found = found;
+      at-target = read-back w64 2050048000 _ (lit< tt) (found .within _ (begin .pre .1 .1 .1));
+      depth-of-source = reached (c .before) _ (begin .pre .1 .1 .0);
+      depth-of-target = reached (c .before) _ (begin .pre .1 .1 .1);
+    })
+
+pub analyse-arranged-spec : {M : Type 1} → statement M
+analyse-arranged-spec =
+    tie.close
+    (tie.spec
+    slice-aggregate-find-depths
+    slice-aggregate-find-depths-2
+    find-depths-requires
+    slice-aggregate-lowest-unreached
+    lowest-unreached-requires
+    refused-requires
+    returns
+    find-latest-requires
+    mul-t27
+    slice-copy-out-t29
+    mul-t30
+    array-read-t33
+    mul-t34
+    array-read-t37
+    same-length
+    returns-2)
