@@ -50,8 +50,8 @@ module _ {b : ℕ} {g : Graph} (eg : EventGraph b g) (rank : ℕ → ℕ) (first
     below-arrival v o before h =
         let i : ℕ = h .reached .0 in
         let l : i < rules g = h .reached .1 in
-        omega
-        (linear,
+        omega (
+          linear,
           h .reached .3,
           before i l (h .reached .2),
           o .arrival-greatest .bound i l (h .reached .2),
@@ -59,7 +59,8 @@ module _ {b : ℕ} {g : Graph} (eg : EventGraph b g) (rank : ℕ → ℕ) (first
           sum (time (source g i)) (delay i),
           sum (u (source g i)) (most g i),
           difference (time v) (time s),
-          difference (time (source g i)) (time s))
+          difference (time (source g i)) (time s),
+        )
 
     below-at : (v : ℕ) → v < g .events → ((i : ℕ) → i < rules g → target g i ≡ v → (time (source g i) -ℤ time s) ≤ℤ u (source g i)) → Dec (v ≡ 0) → (time v -ℤ time s) ≤ℤ u v
     below-at v h before (yes e) = subst (λ (w : ℕ). (time w -ℤ time s) ≤ℤ u w) (sym e) (below-m (keeps-least eg x) (steps .root))
@@ -103,26 +104,28 @@ module _ {b : ℕ} {g : Graph} (eg : EventGraph b g) (rank : ℕ → ℕ) (first
 
           arrives : (u (source g i) +ℤ least g i) ≤ℤ (o .arrival)
           arrives =
-              omega
-              (linear,
+              omega (
+                linear,
                 o .arrival-greatest .bound i h refl,
                 eg .sized .delays i h .ordered,
                 sum (u (source g i)) (least g i),
-                sum (u (source g i)) (most g i))
+                sum (u (source g i)) (most g i),
+              )
 
           go : {y : ℤ} → Capped g s (target g i) (o .arrival) y → (u (source g i) +ℤ least g i) ≤ℤ y
           go {y} (with-m x m l) =
               let p : Path g (target g i) s = m .reached .0 in
               let first-part : u (source g i) ≤ℤ negℤ (least g i +ℤ leastSum p) = u-below-path (eg .sized .ends i h .source-known) (step i h refl refl p) in
               let under : (u (source g i) +ℤ least g i) ≤ℤ x =
-                  omega
-                  (linear,
-                    first-part,
-                    m .reached .1,
-                    negation (leastSum p),
-                    negation (least g i +ℤ leastSum p),
-                    sum (least g i) (leastSum p),
-                    sum (u (source g i)) (least g i))
+              omega (
+                linear,
+                first-part,
+                m .reached .1,
+                negation (leastSum p),
+                negation (least g i +ℤ leastSum p),
+                sum (least g i) (leastSum p),
+                sum (u (source g i)) (least g i),
+              )
               in
               ⊎-elim (λ (e : y ≡ x). omega linear) (λ (e : y ≡ o .arrival). omega (linear, arrives)) (l .one)
           go (without-m none e) = omega (linear, arrives)
@@ -137,10 +140,11 @@ module _ {b : ℕ} {g : Graph} (eg : EventGraph b g) (rank : ℕ → ℕ) (first
   pub u-at-s : s < g .events → u s ≡ pos 0
   u-at-s h =
       let p : Path g 0 s = steps .root .reached .0 in
-      omega
-      (linear,
+      omega (
+        linear,
         u-below-path h stay,
         path-bound u-keeps-least p,
         steps .root .reached .1,
         negation (leastSum p),
-        sum (u 0) (leastSum p))
+        sum (u 0) (leastSum p),
+      )

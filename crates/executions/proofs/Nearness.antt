@@ -49,7 +49,7 @@ clamped e d D x ordered high low = outer (leZ D x) refl (leZ d (minℤ D x)) ref
           from-least = omega linear;
           to-most = o;
           not-later = omega (linear, sum y (pos e), sum d (pos e));
-          not-earlier = low
+          not-earlier = low;
         }
 
     outer : (p : Bool) → leZ D x ≡ p → (q : Bool) → leZ d (cond p D x) ≡ q → Clamped e d D x (cond q (cond p D x) d)
@@ -75,20 +75,21 @@ module _ {c g : Graph} (same : SameRules c g) where
   follows-same {delay} {time} f =
       record {
         root = f .root;
-        others = λ v h n. at v (f .others v (subst (λ (k : ℕ). v < k) (sym (same .events-same)) h) n)
+        others = λ v h n. at v (f .others v (subst (λ (k : ℕ). v < k) (sym (same .events-same)) h) n);
       }
     where
       at : (v : ℕ) → Greatest g v (λ i. time (source g i) +ℤ delay i) (time v) → Greatest c v (λ i. time (source c i) +ℤ delay i) (time v)
       at v m =
           record {
-            reached =
-              (m .reached .0,
-                omega (arith, m .reached .1, rules-same),
-                sym (target-same (m .reached .0)) ∙ m .reached .2,
-                ap (λ (w : ℕ). time w +ℤ delay (m .reached .0)) (sym (source-same (m .reached .0))) ∙ m .reached .3);
+            reached = (
+              m .reached .0,
+              omega (arith, m .reached .1, rules-same),
+              sym (target-same (m .reached .0)) ∙ m .reached .2,
+              ap (λ (w : ℕ). time w +ℤ delay (m .reached .0)) (sym (source-same (m .reached .0))) ∙ m .reached .3,
+            );
             bound = λ i l e.
-              subst (λ (w : ℕ). (time w +ℤ delay i) ≤ℤ time v) (source-same i)
-              (m .bound i (omega (arith, l, rules-same)) (target-same i ∙ e))
+                subst (λ (w : ℕ). (time w +ℤ delay i) ≤ℤ time v) (source-same i)
+                (m .bound i (omega (arith, l, rules-same)) (target-same i ∙ e));
           }
 
 -- ---- times that follow from nearby delays
@@ -105,13 +106,13 @@ module _ {b : ℕ} {c : Graph} (ec : EventGraph b c) (e : ℕ) {delay time delay
       absurd (let no : ⊥ = omega (arith, bound (along p i l refl refl), steps-along p i l refl refl) in no)
   by-rule i l at before (suc k) bound =
       let earlier : time (source c i) ≤ℤ (time′ (source c i) +ℤ pos (e * k)) =
-          before k (λ p. let one : suc (steps p) ≤ suc k = omega (arith, bound (along p i l refl refl), steps-along p i l refl refl) in omega arith)
+      before k (λ p. let one : suc (steps p) ≤ suc k = omega (arith, bound (along p i l refl refl), steps-along p i l refl refl) in omega arith)
       in
       let after : (time′ (source c i) +ℤ delay′ i) ≤ℤ time′ (target c i) =
-          f′ .others (target c i) (ec .sized .ends i l .target-known) (target-is-other ec i l) .bound i l refl
+      f′ .others (target c i) (ec .sized .ends i l .target-known) (target-is-other ec i l) .bound i l refl
       in
-      omega
-      (linear,
+      omega (
+        linear,
         earlier,
         after,
         near i l,
@@ -120,7 +121,8 @@ module _ {b : ℕ} {c : Graph} (ec : EventGraph b c) (e : ℕ) {delay time delay
         sum (time′ (source c i)) (delay′ i),
         sum (delay′ i) (pos e),
         sum (time′ (source c i)) (pos (e * k)),
-        sum (time′ (target c i)) (pos (e * suc k)))
+        sum (time′ (target c i)) (pos (e * suc k)),
+      )
 
   at-root : (v : ℕ) → v ≡ 0 → NotLater v
   unfolding NotLater
@@ -167,23 +169,23 @@ module _ {b b′ : ℕ} {c g h : Graph} (ec : EventGraph b c) (eh : EventGraph b
       let time′ : ℕ → ℤ = z .0 in
       let r = rank-of c (ec .sized .ends) (ec .acyclic) in
       let x′ : Execution h (moved delay) time′ =
-          record {
-            from-least = λ i l. moved-clamped x i l .from-least;
-            to-most = λ i l. moved-clamped x i l .to-most;
-            root = z .1 .root;
-            others = z .1 .others
-          }
+      record {
+        from-least = λ i l. moved-clamped x i l .from-least;
+        to-most = λ i l. moved-clamped x i l .to-most;
+        root = z .1 .root;
+        others = z .1 .others;
+      }
       in
       let late : time t ≤ℤ (time′ t +ℤ pos (e * d)) =
-          not-later ec e (follows-same cg (follows x)) (follows-same ch (z .1))
-          (λ i l. moved-clamped x i (omega (arith, rules-same ch)) .not-later) (r .0) (r .1) t ht d (dd .bound)
+      not-later ec e (follows-same cg (follows x)) (follows-same ch (z .1))
+      (λ i l. moved-clamped x i (omega (arith, rules-same ch)) .not-later) (r .0) (r .1) t ht d (dd .bound)
       in
       let early : time′ s ≤ℤ (time s +ℤ pos (e * a)) =
-          not-later ec e (follows-same ch (z .1)) (follows-same cg (follows x))
-          (λ i l. moved-clamped x i (omega (arith, rules-same ch)) .not-earlier) (r .0) (r .1) s hs a (da .bound)
+      not-later ec e (follows-same ch (z .1)) (follows-same cg (follows x))
+      (λ i l. moved-clamped x i (omega (arith, rules-same ch)) .not-earlier) (r .0) (r .1) s hs a (da .bound)
       in
-      omega
-      (linear,
+      omega (
+        linear,
         late,
         early,
         bound (moved delay) time′ x′,
@@ -191,7 +193,8 @@ module _ {b b′ : ℕ} {c g h : Graph} (ec : EventGraph b c) (eh : EventGraph b
         sum (time s) (pos (e * a)),
         difference (time t) (time s),
         difference (time′ t) (time′ s),
-        sum y (pos (e * (a + d))))
+        sum y (pos (e * (a + d))),
+      )
 
 -- ---- demand 3, first sentence
 
@@ -199,7 +202,7 @@ near-exchanged : {e : ℕ} {g h : Graph} → SameRules g h → DelaysNear e g h 
 near-exchanged {e} {g} {h} same n =
     record {
       leasts-near = λ i l. turned (n .leasts-near i (omega (arith, rules-same same)));
-      mosts-near = λ i l. turned (n .mosts-near i (omega (arith, rules-same same)))
+      mosts-near = λ i l. turned (n .mosts-near i (omega (arith, rules-same same)));
     }
   where
     turned : {x y : ℤ} → Near e x y → Near e y x
@@ -214,7 +217,7 @@ maxima-near {g = g} {h = h} eg eh same e near {s} {t} {a} {d} {x} {y} hs ht da d
     let m = e * (a + d) in
     record {
       not-above =
-        omega (linear, rx .3, moved-near eg eh (same-refl g) same e near hs ht da dd (rx .2) (sy .bound));
+          omega (linear, rx .3, moved-near eg eh (same-refl g) same e near hs ht da dd (rx .2) (sy .bound));
       not-below =
-        omega (linear, ry .3, moved-near eg eg same (same-refl g) e (near-exchanged same near) hs ht da dd (ry .2) (sx .bound))
+          omega (linear, ry .3, moved-near eg eg same (same-refl g) e (near-exchanged same near) hs ht da dd (ry .2) (sx .bound));
     }

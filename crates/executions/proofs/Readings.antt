@@ -34,7 +34,7 @@ greatest-delay {g} {time} {i} {x} keeps ordered l =
       from-least = ⊎-elim (λ (e : x ≡ time (target g i) -ℤ time (source g i)). omega (linear, difference (time (target g i)) (time (source g i)), sum (time (source g i)) (least g i))) (λ (e : x ≡ most g i). omega linear) (l .one);
       to-most = l .right;
       in-time = omega (linear, l .left, difference (time (target g i)) (time (source g i)), sum (time (source g i)) x);
-      greatest = λ y low high late. above y low high late (l .one)
+      greatest = λ y low high late. above y low high late (l .one);
     }
   where
     above : (y : ℤ) → least g i ≤ℤ y → y ≤ℤ most g i → (time (source g i) +ℤ y) ≤ℤ time (target g i) → (x ≡ time (target g i) -ℤ time (source g i)) ⊎ (x ≡ most g i) → y ≤ℤ x
@@ -48,7 +48,7 @@ module _ {b : ℕ} {g : Graph} (eg : EventGraph b g) where
         from-least = λ i h. delays i h .from-least;
         to-most = λ i h. delays i h .to-most;
         root = root;
-        others = λ v h n. record { reached = by v (reaches v h n); bound = λ i l e. subst (λ (w : ℕ). (time (source g i) +ℤ delay i) ≤ℤ time w) e (delays i l .in-time) }
+        others = λ v h n. record { reached = by v (reaches v h n); bound = λ i l e. subst (λ (w : ℕ). (time (source g i) +ℤ delay i) ≤ℤ time w) e (delays i l .in-time) };
       }
     where
       -- the rule that reaches v takes the difference of the two times
@@ -59,10 +59,10 @@ module _ {b : ℕ} {g : Graph} (eg : EventGraph b g) where
           let l : i < rules g = r .is-rule in
           let D = difference (time (target g i)) (time (source g i)) in
           let whole : y ≤ℤ delay i =
-              delays i l .greatest y
-              (omega (linear, keeps .keeps i l, D, sum (time (source g i)) (least g i)))
-              (omega (linear, r .late, ap time (r .into), D, sum (time (source g i)) (most g i)))
-              (omega (linear, D, sum (time (source g i)) y))
+          delays i l .greatest y
+          (omega (linear, keeps .keeps i l, D, sum (time (source g i)) (least g i)))
+          (omega (linear, r .late, ap time (r .into), D, sum (time (source g i)) (most g i)))
+          (omega (linear, D, sum (time (source g i)) y))
           in
           (i, l, r .into, omega (linear, whole, delays i l .in-time, D, ap time (r .into), sum (time (source g i)) (delay i)))
 
@@ -72,8 +72,8 @@ module _ {b : ℕ} {g : Graph} (eg : EventGraph b g) where
   bounds-keep {time} x =
       record {
         keeps = λ i h.
-          let o : Between g time (target g i) = x .others (target g i) (eg .sized .ends i h .target-known) (target-is-other eg i h) in
-          omega (linear, o .earliest-greatest .bound i h refl, o .after)
+            let o : Between g time (target g i) = x .others (target g i) (eg .sized .ends i h .target-known) (target-is-other eg i h) in
+            omega (linear, o .earliest-greatest .bound i h refl, o .after);
       }
 
   bounds-reach : {time : ℕ → ℤ} (v : ℕ) → Between g time v → Reaches g time v
@@ -82,12 +82,13 @@ module _ {b : ℕ} {g : Graph} (eg : EventGraph b g) where
       record { rule = r .0; is-rule = r .1; into = r .2; late = omega (linear, r .3, o .before) }
 
   pub bounded→execution : {time : ℕ → ℤ} → Bounded g time → (delay : ℕ → ℤ) × Execution g delay time
-  bounded→execution {time} x =
-      (λ i. minℤ (time (target g i) -ℤ time (source g i)) (most g i),
-        executes (x .root) (bounds-keep x) (λ v h n. bounds-reach v (x .others v h n))
+  bounded→execution {time} x = (
+    λ i. minℤ (time (target g i) -ℤ time (source g i)) (most g i),
+    executes (x .root) (bounds-keep x) (λ v h n. bounds-reach v (x .others v h n))
         (λ i h.
-          greatest-delay (bounds-keep x .keeps i h) (eg .sized .delays i h .ordered)
-          (lesser-min (time (target g i) -ℤ time (source g i)) (most g i))))
+        greatest-delay (bounds-keep x .keeps i h) (eg .sized .delays i h .ordered)
+        (lesser-min (time (target g i) -ℤ time (source g i)) (most g i))),
+  )
 
   pub execution→bounded : {delay time : ℕ → ℤ} → Execution g delay time → Bounded g time
   execution→bounded {delay} {time} x = record { root = x .root; others = λ v h n. at v (x .others v h n) }
@@ -106,19 +107,21 @@ module _ {b : ℕ} {g : Graph} (eg : EventGraph b g) where
             latest = high .0;
             latest-greatest = high .1;
             after =
-              omega
-              (linear,
-                low .1 .reached .3,
-                m .bound k o (low .1 .reached .2),
-                x .from-least k o,
-                sum (time (source g k)) (least g k),
-                sum (time (source g k)) (delay k));
+                omega (
+                  linear,
+                  low .1 .reached .3,
+                  m .bound k o (low .1 .reached .2),
+                  x .from-least k o,
+                  sum (time (source g k)) (least g k),
+                  sum (time (source g k)) (delay k),
+                );
             before =
-              omega
-              (linear,
-                m .reached .3,
-                high .1 .bound i l (m .reached .2),
-                x .to-most i l,
-                sum (time (source g i)) (most g i),
-                sum (time (source g i)) (delay i))
+                omega (
+                  linear,
+                  m .reached .3,
+                  high .1 .bound i l (m .reached .2),
+                  x .to-most i l,
+                  sum (time (source g i)) (most g i),
+                  sum (time (source g i)) (delay i),
+                );
           }

@@ -35,7 +35,7 @@ module _ {b : ℕ} {g : Graph} (eg : EventGraph b g) where
       at : (i : ℕ) → i < rules g → (time (source g i) +ℤ least g i) ≤ℤ time (target g i)
       at i h =
           let after : (time (source g i) +ℤ delay i) ≤ℤ time (target g i) =
-              x .others (target g i) (eg .sized .ends i h .target-known) (target-is-other i h) .bound i h refl
+          x .others (target g i) (eg .sized .ends i h .target-known) (target-is-other i h) .bound i h refl
           in
           omega (linear, after, x .from-least i h, sum (time (source g i)) (delay i), sum (time (source g i)) (least g i))
 
@@ -43,8 +43,8 @@ pub path-bound : {g : Graph} {time : ℕ → ℤ} → KeepsLeast g time → {v w
 path-bound {g} {time} k {v} stay = omega (linear, sum (time v) (pos 0))
 path-bound {g} {time} k (step {u} {v} {w} i h e f p) =
     let rest : (time v +ℤ leastSum p) ≤ℤ time w = path-bound k p in
-    omega
-    (linear,
+    omega (
+      linear,
       rest,
       k .keeps i h,
       ap time e,
@@ -52,4 +52,5 @@ path-bound {g} {time} k (step {u} {v} {w} i h e f p) =
       sum (time u) (least g i +ℤ leastSum p),
       sum (least g i) (leastSum p),
       sum (time (source g i)) (least g i),
-      sum (time v) (leastSum p))
+      sum (time v) (leastSum p),
+    )

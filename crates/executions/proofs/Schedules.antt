@@ -29,15 +29,16 @@ module _ {b : ℕ} {g : Graph} (eg : EventGraph b g) (rank : ℕ → ℕ) (first
         at i h =
             let S : ℕ = source g i in
             let T : ℕ = target g i in
-            omega
-            (linear,
+            omega (
+              linear,
               u-keeps-least eg rank first steps .keeps i h,
               times S (eg .sized .ends i h .source-known),
               times T (eg .sized .ends i h .target-known),
               sum (u S) (least g i),
               sum (time S) (least g i),
               difference (u S) (u 0),
-              difference (u T) (u 0))
+              difference (u T) (u 0),
+            )
 
     reaches : (v : ℕ) → v < g .events → (v ≡ 0 → ⊥) → Reaches g time v
     reaches v h n =
@@ -48,15 +49,16 @@ module _ {b : ℕ} {g : Graph} (eg : EventGraph b g) (rank : ℕ → ℕ) (first
           is-rule = r .is-rule;
           into = r .into;
           late =
-            omega
-            (linear,
-              r .late,
-              times v h,
-              times S (eg .sized .ends (r .rule) (r .is-rule) .source-known),
-              sum (u S) (most g (r .rule)),
-              sum (time S) (most g (r .rule)),
-              difference (u v) (u 0),
-              difference (u S) (u 0))
+              omega (
+                linear,
+                r .late,
+                times v h,
+                times S (eg .sized .ends (r .rule) (r .is-rule) .source-known),
+                sum (u S) (most g (r .rule)),
+                sum (time S) (most g (r .rule)),
+                difference (u v) (u 0),
+                difference (u S) (u 0),
+              );
         }
 
     greatest : (i : ℕ) → i < rules g → GreatestDelay g time i (delay i)
@@ -67,20 +69,21 @@ module _ {b : ℕ} {g : Graph} (eg : EventGraph b g) (rank : ℕ → ℕ) (first
 
     against-s : (v : ℕ) → v < g .events → time v -ℤ time s ≡ u v
     against-s v h =
-        omega
-        (linear,
+        omega (
+          linear,
           times v h,
           times s is-event,
           u-at-s eg rank first steps is-event,
           difference (u v) (u 0),
           difference (u s) (u 0),
-          difference (time v) (time s))
+          difference (time v) (time s),
+        )
 
     reached-and-bound : (v : ℕ) → v < g .events → Separation g s v (u v)
     reached-and-bound v h =
         record {
           reached = (delay, time, execution, against-s v h);
-          bound = λ delay′ time′ x. below-u eg rank first steps x v h
+          bound = λ delay′ time′ x. below-u eg rank first steps x v h;
         }
 
     pub schedule-of : Schedule g s delay time
@@ -89,7 +92,7 @@ module _ {b : ℕ} {g : Graph} (eg : EventGraph b g) (rank : ℕ → ℕ) (first
           times = record { u = u; steps = steps; times = times };
           delays = greatest;
           execution = execution;
-          latest = λ v h. subst (Separation g s v) (sym (against-s v h)) (reached-and-bound v h)
+          latest = λ v h. subst (Separation g s v) (sym (against-s v h)) (reached-and-bound v h);
         }
 
   times-of : ℕ → ℤ

@@ -28,7 +28,7 @@ module _ {b : ℕ} {g : Graph} (eg : EventGraph b g) {delay time : ℕ → ℤ} 
   delay-within i l =
       record {
         above = omega (linear, eg .sized .delays i l .least-within .above, x .from-least i l);
-        below = omega (linear, eg .sized .delays i l .most-within .below, x .to-most i l)
+        below = omega (linear, eg .sized .delays i l .most-within .below, x .to-most i l);
       }
 
   module _ (rank : ℕ → ℕ) (first : (i : ℕ) → i < rules g → rank (source g i) < rank (target g i)) where

@@ -20,7 +20,7 @@ greatest-same : {g : Graph} {v : ℕ} {f h : ℕ → ℤ} {x : ℤ} → Greatest
 greatest-same {g} {v} {f} {h} {x} m same =
     record {
       reached = (m .reached .0, m .reached .1, m .reached .2, sym (same (m .reached .0) (m .reached .1) (m .reached .2)) ∙ m .reached .3);
-      bound = λ i l e. subst (λ (y : ℤ). y ≤ℤ x) (same i l e) (m .bound i l e)
+      bound = λ i l e. subst (λ (y : ℤ). y ≤ℤ x) (same i l e) (m .bound i l e);
     }
 
 -- times that follow from the delays taken
@@ -76,14 +76,14 @@ module _ {b : ℕ} {g : Graph} (eg : EventGraph b g) where
       settled-follow below =
           record {
             root = timeAt-root (suc (g .events)) 0 refl;
-            others = λ v h n. again v (timeAt-greatest (g .events) v h n)
+            others = λ v h n. again v (timeAt-greatest (g .events) v h n);
           }
         where
           again : (v : ℕ) → Greatest g v (λ i. timeAt (g .events) (source g i) +ℤ delay i) (timeAt (suc (g .events)) v) → Greatest g v (λ i. timeAt (suc (g .events)) (source g i) +ℤ delay i) (timeAt (suc (g .events)) v)
           again v x =
               greatest-same x
               (λ i l e. ap (λ (y : ℤ). y +ℤ delay i)
-                (settled (g .events) (source g i) (below (source g i) (eg .sized .ends i l .source-known)) (eg .sized .ends i l .source-known)))
+              (settled (g .events) (source g i) (below (source g i) (eg .sized .ends i l .source-known)) (eg .sized .ends i l .source-known)))
 
     pub times-follow : (time : ℕ → ℤ) × Follows g delay time
     times-follow =

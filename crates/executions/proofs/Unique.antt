@@ -28,9 +28,9 @@ module _ {g : Graph} {s t : ℕ} where
   least-is-exchanged {x} a =
       record {
         reached =
-          let r = a .reached in
-          (r .0, r .1, r .2, omega (linear, r .3, negation x, difference (r .1 t) (r .1 s), difference (r .1 s) (r .1 t)));
-        bound = λ delay time e. omega (linear, a .bound delay time e, negation x, difference (time t) (time s), difference (time s) (time t))
+            let r = a .reached in
+            (r .0, r .1, r .2, omega (linear, r .3, negation x, difference (r .1 t) (r .1 s), difference (r .1 s) (r .1 t)));
+        bound = λ delay time e. omega (linear, a .bound delay time e, negation x, difference (time t) (time s), difference (time s) (time t));
       }
 
   not-under : {x y : ℤ} → LeastSeparation g s t x → LeastSeparation g s t y → x ≤ℤ y
@@ -57,8 +57,8 @@ module _ {b : ℕ} {g : Graph} (eg : EventGraph b g) {s : ℕ} {delay time delay
 
   pub schedule-times-unique : (v : ℕ) → v < g .events → time v ≡ time′ v
   schedule-times-unique v h =
-      omega
-      (linear,
+      omega (
+        linear,
         against-s v h,
         against-s 0 (eg .sized .counts .some-event),
         a .execution .root,
@@ -66,7 +66,8 @@ module _ {b : ℕ} {g : Graph} (eg : EventGraph b g) {s : ℕ} {delay time delay
         difference (time v) (time s),
         difference (time′ v) (time′ s),
         difference (time 0) (time s),
-        difference (time′ 0) (time′ s))
+        difference (time′ 0) (time′ s),
+      )
 
   pub schedule-delays-unique : (i : ℕ) → i < rules g → delay i ≡ delay′ i
   schedule-delays-unique i h =

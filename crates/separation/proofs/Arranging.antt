@@ -39,11 +39,11 @@ sized-up {g = g} l s =
       counts = s .counts;
       ends = s .ends;
       delays = λ i h.
-        record {
-          least-within = within-wider l (s .delays i h .least-within);
-          most-within = within-wider l (s .delays i h .most-within);
-          ordered = s .delays i h .ordered;
-        };
+          record {
+            least-within = within-wider l (s .delays i h .least-within);
+            most-within = within-wider l (s .delays i h .most-within);
+            ordered = s .delays i h .ordered;
+          };
     }
 
 pub arranged-acyclic : {n : ℕ} {ss ts heads-out nexts-out heads-in nexts-in order : List ℕ} {ds Ds : List ℤ} → Arranged n ss ts heads-out nexts-out heads-in nexts-in order → HasCycle (graphOf n ss ts ds Ds) → ⊥

@@ -13,3 +13,4 @@ pub mod MPass
 pub mod Counting
 pub mod Placement
 pub mod Arranging
+pub mod Exact

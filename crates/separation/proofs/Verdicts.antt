@@ -90,7 +90,7 @@ module _ {g : Graph} where
   pub path-0 : (HasCycle g → ⊥) → ((v : ℕ) → v < g .events → Reachable g v) → PathVerdict g 0 0
   path-0 acyclic reachable = passed (λ q c. acyclic (c .holds)) (passed (λ q u. u .holds .no-path (reachable q (u .holds .is-event))) accepted)
 
--- ---- one verdict
+  -- ---- one verdict
 
   pub path-unique : {i p j q : ℕ} → PathVerdict g i p → PathVerdict g j q → (i ≡ j) × (p ≡ q)
   path-unique = first-unique (λ p q. atZero-unique) (λ i p j q. first-unique (λ p q. lowest-unique) (λ i p j q. accepted-unique))

@@ -46,8 +46,33 @@ fn find_latest(
 {
     let mut found = [false; 1024];
     let mut m = [0i64; 1024];
-    find_m(n, sources, targets, leasts, mosts, heads_out, nexts_out, order, s, &mut found, &mut m);
-    find_u(n, sources, targets, leasts, mosts, heads_in, nexts_in, order, s, &found, &m, latest);
+    find_m(
+        n,
+        sources,
+        targets,
+        leasts,
+        mosts,
+        heads_out,
+        nexts_out,
+        order,
+        s,
+        &mut found,
+        &mut m,
+    );
+    find_u(
+        n,
+        sources,
+        targets,
+        leasts,
+        mosts,
+        heads_in,
+        nexts_in,
+        order,
+        s,
+        &found,
+        &m,
+        latest,
+    );
 }
 
 // Links the rules by source and by target, and orders the events. False where the graph has a cycle.
@@ -96,12 +121,34 @@ fn analyse_arranged(
 {
     let mut reached = [false; 1024];
     let mut depth = [0usize; 1024];
-    find_depths(n, sources, targets, heads_in, nexts_in, order, &mut reached, &mut depth);
+    find_depths(
+        n,
+        sources,
+        targets,
+        heads_in,
+        nexts_in,
+        order,
+        &mut reached,
+        &mut depth,
+    );
     let unreached = lowest_unreached(n, &reached);
     if unreached < n {
         return refused(6, unreached);
     }
-    find_latest(n, sources, targets, leasts, mosts, heads_out, nexts_out, heads_in, nexts_in, order, s, latest);
+    find_latest(
+        n,
+        sources,
+        targets,
+        leasts,
+        mosts,
+        heads_out,
+        nexts_out,
+        heads_in,
+        nexts_in,
+        order,
+        s,
+        latest,
+    );
     Answer {
         refusal: 0,
         place: 0,
@@ -131,8 +178,31 @@ pub(crate) fn analyse(
     let mut heads_in = [0usize; 1024];
     let mut nexts_in = [0usize; 4096];
     let mut order = [0usize; 1024];
-    if !arrange(n, sources, targets, &mut heads_out, &mut nexts_out, &mut heads_in, &mut nexts_in, &mut order) {
+    if !arrange(
+        n,
+        sources,
+        targets,
+        &mut heads_out,
+        &mut nexts_out,
+        &mut heads_in,
+        &mut nexts_in,
+        &mut order,
+    ) {
         return refused(5, 0);
     }
-    analyse_arranged(n, sources, targets, leasts, mosts, &heads_out, &nexts_out, &heads_in, &nexts_in, &order, s, t, latest)
+    analyse_arranged(
+        n,
+        sources,
+        targets,
+        leasts,
+        mosts,
+        &heads_out,
+        &nexts_out,
+        &heads_in,
+        &nexts_in,
+        &order,
+        s,
+        t,
+        latest,
+    )
 }

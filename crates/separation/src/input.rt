@@ -5,7 +5,9 @@ ghost use Rattle.graphs.specs.Graph.{graphOf};
 ghost use Rattle.separation.specs.Analysis.{InputChecked};
 use crate::Answer;
 use crate::answers::refused;
-use crate::checks::{counts_kept, outside_delay, unknown_event};
+use crate::checks::counts_kept;
+use crate::checks::outside_delay;
+use crate::checks::unknown_event;
 
 // The first of the refusals 1 to 4 that applies, or an answer with number 0. `short` says that a lent list is too short.
 pub(crate) fn check_input(

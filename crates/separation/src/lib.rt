@@ -1,4 +1,10 @@
 // The greatest separation of two events of an event graph, exactly, with the schedule that reaches it.
+//     separation    the number and both depths, or the refusal with its place
+//     schedule      the same, with the whole latest schedule written into two lent lists
+// No caller is trusted: every list, length and number gets an answer. The promises are in specs/Promise.antt.
+ghost use Rattle.graphs.specs.Graph.{graphOf};
+ghost use Rattle.separation.specs.Promise.{Answered, ShortLists, Written};
+
 mod analysis;
 mod answers;
 mod checks;
@@ -10,6 +16,12 @@ mod lists;
 mod order;
 mod paths;
 
+use crate::analysis::analyse;
+use crate::input::check_input;
+use crate::lists::too_short;
+use crate::lists::write_delays;
+use crate::lists::write_times;
+
 // The answer to a question of separation. `refusal` is 0, or the number of document 01's table, with its place.
 pub struct Answer {
     pub refusal: usize,
@@ -17,4 +29,55 @@ pub struct Answer {
     pub separation: i64,
     pub source_depth: usize,
     pub target_depth: usize,
+}
+
+// The greatest t(t) − t(s) over all executions of the graph with n events and these rules, and the depths of s and t.
+pub fn separation(
+    n: usize,
+    sources: &[usize],
+    targets: &[usize],
+    leasts: &[i64],
+    mosts: &[i64],
+    s: usize,
+    t: usize,
+) -> Answer
+    ensures { λ r. ⌜ Answered (graphOf n (now (sources .entry)) (now (targets .entry)) (now (leasts .entry)) (now (mosts .entry))) s t ⊥ r ⌝ }
+{
+    let input = check_input(n, sources, targets, leasts, mosts, s, t, false);
+    if input.refusal != 0 {
+        return input;
+    }
+    let mut latest = [0i64; 1024];
+    analyse(n, sources, targets, leasts, mosts, s, t, &mut latest)
+}
+
+// The same, and the whole latest schedule against s: the times of the n events and the delays of the rules. Places beyond keep what they held; refused,
+// both lists do.
+pub fn schedule(
+    n: usize,
+    sources: &[usize],
+    targets: &[usize],
+    leasts: &[i64],
+    mosts: &[i64],
+    s: usize,
+    t: usize,
+    times: &mut [i64],
+    delays: &mut [i64],
+) -> Answer
+    ensures { λ r. ⌜ Answered (graphOf n (now (sources .entry)) (now (targets .entry)) (now (leasts .entry)) (now (mosts .entry))) s t (ShortLists (graphOf n (now (sources .entry)) (now (targets .entry)) (now (leasts .entry)) (now (mosts .entry))) (now (times .entry)) (now (delays .entry))) r ⌝ }
+    ensures { λ r. ⌜ Written (graphOf n (now (sources .entry)) (now (targets .entry)) (now (leasts .entry)) (now (mosts .entry))) s r (now (times .entry)) (now (delays .entry)) (now (times .exit)) (now (delays .exit)) ⌝ }
+{
+    let short = too_short(times.len(), n, delays.len(), sources.len());
+    let input = check_input(n, sources, targets, leasts, mosts, s, t, short);
+    if input.refusal != 0 {
+        return input;
+    }
+    let mut latest = [0i64; 1024];
+    let answer = analyse(n, sources, targets, leasts, mosts, s, t, &mut latest);
+    if answer.refusal != 0 {
+        return answer;
+    }
+    write_times(n, &latest, times);
+    write_delays(sources, targets, mosts, times, delays);
+    answer
 }

@@ -1,11 +1,27 @@
 // The schedule's two lists, written where the caller lends them.
 ghost use mathlib.Core.Path.{_≡_};
+ghost use mathlib.Core.Bool.{true};
+ghost use mathlib.Core.Logic.{_⊎_};
 ghost use Prim.Native.Nat.{ℕ, _<_, _≤_};
 ghost use lib.IntN.{pos, _-ℤ_};
 ghost use lib.ListN.{length, getD};
 ghost use Rattle.integers.specs.Within.{Within};
 ghost use Rattle.executions.specs.Steps.{Lesser};
 ghost use Rattle.separation.specs.Lists.{Filled, TimeAt, DelayAt, RuleTimed};
+
+// Whether a list of that many times, or of that many delays, is too short.
+pub(crate) fn too_short(times: usize, n: usize, delays: usize, rules: usize) -> bool
+    ensures { λ r. ⌜ (r ≡ true → (times < n) ⊎ (delays < rules)) ⌝ }
+    ensures { λ r. ⌜ ((times < n) ⊎ (delays < rules) → r ≡ true) ⌝ }
+{
+    if times < n {
+        return true;
+    }
+    if delays < rules {
+        return true;
+    }
+    false
+}
 
 // The time of each event, U(v) − U(root). `latest` holds U.
 pub(crate) fn write_times(n: usize, latest: &[i64], times: &mut [i64])

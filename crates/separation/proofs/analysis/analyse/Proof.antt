@@ -32,9 +32,10 @@ slice-aggregate-arrange-5 c = search needs
 arrange-requires : tie.Need-arrange-requires
 arrange-requires c κs =
     let begin = c .before .before .before .before .before .before .before in
-    let counts = begin .pre .0 .counts in
-    ((counts .some-event, counts .few-events, counts .few-rules, counts .targets-match),
-      ((sources-below (begin .pre .0), targets-below (begin .pre .0)), ((refl, refl {a = 4096}), (refl, refl {a = 4096}, refl {a = 1024}))))
+    let counts = begin .pre .0 .counts in (
+      (counts .some-event, counts .few-events, counts .few-rules, counts .targets-match),
+      ((sources-below (begin .pre .0), targets-below (begin .pre .0)), ((refl, refl {a = 4096}), (refl, refl {a = 4096}, refl {a = 1024}))),
+    )
 
 refused-requires : tie.Need-refused-requires
 refused-requires c κs = search needs

@@ -68,11 +68,16 @@ find-depths-requires : tie.Need-find-depths-requires
 find-depths-requires c κs =
     let start = c .before .before .before .before .before .before .before .before .before in
     let counts = start .pre .0 .counts in
-    let arranged = start .pre .1 .0 in
-    ((counts .some-event, counts .few-events, counts .few-rules, counts .targets-match),
-      ((sources-below (start .pre .0), targets-below (start .pre .0)),
-        ((arranged .by-target .linked, arranged .by-target .heads-long, arranged .by-target .nexts-long),
-          (((arranged .rank, arranged .ordered), arranged .order-long), (refl {a = 1024}, refl {a = 1024})))))
+    let arranged = start .pre .1 .0 in (
+      (counts .some-event, counts .few-events, counts .few-rules, counts .targets-match),
+      (
+        (sources-below (start .pre .0), targets-below (start .pre .0)),
+        (
+          (arranged .by-target .linked, arranged .by-target .heads-long, arranged .by-target .nexts-long),
+          (((arranged .rank, arranged .ordered), arranged .order-long), (refl {a = 1024}, refl {a = 1024})),
+        ),
+      ),
+    )
 
 slice-aggregate-lowest-unreached : tie.Need-slice-aggregate-lowest-unreached
 slice-aggregate-lowest-unreached c = search needs

@@ -18,18 +18,24 @@ link-requires c κs =
 
 link-requires-2 : tie.Need-link-requires-2
 link-requires-2 c κs =
-    let start = c .before .before .before .before .before .before .before .before .before .before .before .before .before .before .before .before in
-    (subst (λ (k : ℕ). k ≤ 4096) (sym (start .pre .0 .3)) (start .pre .0 .2),
-      (ends-wider (start .pre .0 .1) (start .pre .1 .0 .1), (start .pre .1 .1 .1 .0, start .pre .1 .1 .1 .1)))
+    let start = c .before .before .before .before .before .before .before .before .before .before .before .before .before .before .before .before in (
+      subst (λ (k : ℕ). k ≤ 4096) (sym (start .pre .0 .3)) (start .pre .0 .2),
+      (ends-wider (start .pre .0 .1) (start .pre .1 .0 .1), (start .pre .1 .1 .1 .0, start .pre .1 .1 .1 .1)),
+    )
 
 order-events-requires : tie.Need-order-events-requires
 order-events-requires c κs =
     let start = c .before .before .before .before .before .before .before .before .before .before .before .before .before .before .before .before .before .before .before .before .before .before .before .before in
-    let linked = c .before .before .before .before .before .before .before .before .before .before .before .before .before .before .link in
-    (start .pre .0,
-      (start .pre .1 .0,
-        ((linked .ensures, linked .kept .1 .0 ∙ ap length (start .pre .1 .1 .0 .0), linked .kept .1 .1 .0 ∙ start .pre .1 .1 .0 .1),
-          start .pre .1 .1 .1 .2)))
+    let linked = c .before .before .before .before .before .before .before .before .before .before .before .before .before .before .link in (
+      start .pre .0,
+      (
+        start .pre .1 .0,
+        (
+          (linked .ensures, linked .kept .1 .0 ∙ ap length (start .pre .1 .1 .0 .0), linked .kept .1 .1 .0 ∙ start .pre .1 .1 .0 .1),
+          start .pre .1 .1 .1 .2,
+        ),
+      ),
+    )
 
 same-length : tie.Need-same-length
 same-length c = search needs
@@ -51,18 +57,19 @@ returns c =
     let start = c .before .before .before .before .before .before .before .before .before .before .before .before .before .before .before .before .before .before .before .before .before .before .before .before .before .before .before in
     let out = c .before .before .before .before .before .before .before .before .before .before .before .before .before .before .before .before .before .link in
     let into = c .before .before .before .before .before .before .before .before .before .before .link2 in
-    let order = c .before .before .order-events in
-    (λ e.
-      record {
-        by-source =
-          record { linked = out .ensures; heads-long = out .kept .1 .0 ∙ ap length (start .pre .1 .1 .0 .0); nexts-long = out .kept .1 .1 .0 ∙ start .pre .1 .1 .0 .1 };
-        by-target =
-          record { linked = into .ensures; heads-long = into .kept .1 .0 ∙ ap length (start .pre .1 .1 .1 .0); nexts-long = into .kept .1 .1 .0 ∙ start .pre .1 .1 .1 .1 };
-        order-long = order .kept .1 .1 .1 .1 .1 .0 ∙ start .pre .1 .1 .1 .2;
-        rank = order .ensures .ordered e .0;
-        ordered = order .ensures .ordered e .1;
-      },
-      order .ensures .cyclic)
+    let order = c .before .before .order-events in (
+      λ e.
+          record {
+            by-source =
+                record { linked = out .ensures; heads-long = out .kept .1 .0 ∙ ap length (start .pre .1 .1 .0 .0); nexts-long = out .kept .1 .1 .0 ∙ start .pre .1 .1 .0 .1 };
+            by-target =
+                record { linked = into .ensures; heads-long = into .kept .1 .0 ∙ ap length (start .pre .1 .1 .1 .0); nexts-long = into .kept .1 .1 .0 ∙ start .pre .1 .1 .1 .1 };
+            order-long = order .kept .1 .1 .1 .1 .1 .0 ∙ start .pre .1 .1 .1 .2;
+            rank = order .ensures .ordered e .0;
+            ordered = order .ensures .ordered e .1;
+          },
+      order .ensures .cyclic,
+    )
 
 pub arrange-spec : {M : Type 1} → statement M
 arrange-spec =

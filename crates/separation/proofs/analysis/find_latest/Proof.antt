@@ -17,10 +17,13 @@ slice-aggregate-find-m-2 c = search needs
 find-m-requires : tie.Need-find-m-requires
 find-m-requires c κs =
     let start = c .before .before .before .before .before .before .before .before .before in
-    let arranged = start .pre .1 .0 in
-    ((start .pre .0 .sized, start .pre .1 .1 .0),
-      ((arranged .by-source .linked, arranged .by-source .heads-long, arranged .by-source .nexts-long),
-        (((arranged .rank, arranged .ordered), arranged .order-long), (refl {a = 1024}, refl {a = 1024}))))
+    let arranged = start .pre .1 .0 in (
+      (start .pre .0 .sized, start .pre .1 .1 .0),
+      (
+        (arranged .by-source .linked, arranged .by-source .heads-long, arranged .by-source .nexts-long),
+        (((arranged .rank, arranged .ordered), arranged .order-long), (refl {a = 1024}, refl {a = 1024})),
+      ),
+    )
 
 slice-aggregate-find-u : tie.Need-slice-aggregate-find-u
 slice-aggregate-find-u c = search needs
@@ -32,10 +35,13 @@ find-u-requires : tie.Need-find-u-requires
 find-u-requires c κs =
     let start = c .before .before .before .before .before .before .before .before .before .before .before .before .before .before .before in
     let arranged = start .pre .1 .0 in
-    let found = c .before .before .before .before .before .find-m in
-    ((start .pre .0, start .pre .1 .1 .0),
-      ((arranged .by-target .linked, arranged .by-target .heads-long, arranged .by-target .nexts-long),
-        (((arranged .rank, arranged .ordered), arranged .order-long), ((found .kept .1 .1 .1 .1 .1 .1 .1 .1 .1 .0, found .kept .1 .1 .1 .1 .1 .1 .1 .1 .1 .1 .0, found .ensures), start .pre .1 .1 .1))))
+    let found = c .before .before .before .before .before .find-m in (
+      (start .pre .0, start .pre .1 .1 .0),
+      (
+        (arranged .by-target .linked, arranged .by-target .heads-long, arranged .by-target .nexts-long),
+        (((arranged .rank, arranged .ordered), arranged .order-long), ((found .kept .1 .1 .1 .1 .1 .1 .1 .1 .1 .0, found .kept .1 .1 .1 .1 .1 .1 .1 .1 .1 .1 .0, found .ensures), start .pre .1 .1 .1)),
+      ),
+    )
 
 same-length : tie.Need-same-length
 same-length c = search needs
