@@ -5,5 +5,7 @@ pub mod Readings
 pub mod Schedules
 pub mod Unique
 pub mod Times
+pub mod Same
 pub mod Nearness
+pub mod Widening
 pub mod Sizes

@@ -6,14 +6,12 @@
 -- Paths are counted in one graph c that has the same rules as both, so that one law serves both directions. Assumes nothing.
 use mathlib.Core.Path.{_≡_, refl, ap, sym, subst, _∙_}
 use mathlib.Core.Bool.{Bool, true, false, cond}
-use mathlib.Core.List.{List}
 use Prim.Native.Nat.{ℕ, zero, suc, _+_, _*_, _<_, _≤_}
 use native.Mathlib.Decide.{ℕ-discrete}
 use native.Mathlib.Nat.{not-suc-le-zero, le-refl}
 use native.Mathlib.Omega.{arith}
 use lib.IntN.{ℤ, pos, negℤ, _+ℤ_, _-ℤ_}
 use lib.Signed.{_≤ℤ_, leZ}
-use lib.ListN.{length, getD}
 use Rattle.integers.proofs.Integer.{P, N, linear, sum, difference, negation, minℤ, maxℤ}
 use Rattle.graphs.specs.Graph.{Graph, rules, source, target, least, most, Greatest}
 use Rattle.graphs.specs.Path.{Path, Depth, steps}
@@ -25,6 +23,7 @@ use Rattle.executions.specs.Execution.{Execution}
 use Rattle.executions.specs.Separation.{Separation, SameRules, Near, DelaysNear}
 use Rattle.executions.proofs.Rules.{target-is-other}
 use Rattle.executions.proofs.Times.{Follows, times-follow}
+use Rattle.executions.proofs.Same.{same-refl, rules-same, follows, follows-same}
 
 -- ---- the nearest delay of another interval
 
@@ -55,42 +54,6 @@ clamped e d D x ordered high low = outer (leZ D x) refl (leZ d (minℤ D x)) ref
     outer : (p : Bool) → leZ D x ≡ p → (q : Bool) → leZ d (cond p D x) ≡ q → Clamped e d D x (cond q (cond p D x) d)
     outer true k q m = inner D ordered (omega linear) (omega linear) high q m
     outer false k q m = inner x ordered (omega linear) (omega linear) (omega (linear, sum x (pos e))) q m
-
--- ---- the same rules
-
-pub same-refl : (g : Graph) → SameRules g g
-same-refl g = record { events-same = refl; sources-same = refl; targets-same = refl }
-
-module _ {c g : Graph} (same : SameRules c g) where
-  pub rules-same : rules g ≡ rules c
-  rules-same = ap length (same .sources-same)
-
-  pub source-same : (i : ℕ) → source g i ≡ source c i
-  source-same i = ap (λ (l : List ℕ). getD l i 0) (same .sources-same)
-
-  pub target-same : (i : ℕ) → target g i ≡ target c i
-  target-same i = ap (λ (l : List ℕ). getD l i 0) (same .targets-same)
-
-  follows-same : {delay time : ℕ → ℤ} → Follows g delay time → Follows c delay time
-  follows-same {delay} {time} f =
-      record {
-        root = f .root;
-        others = λ v h n. at v (f .others v (subst (λ (k : ℕ). v < k) (sym (same .events-same)) h) n);
-      }
-    where
-      at : (v : ℕ) → Greatest g v (λ i. time (source g i) +ℤ delay i) (time v) → Greatest c v (λ i. time (source c i) +ℤ delay i) (time v)
-      at v m =
-          record {
-            reached = (
-              m .reached .0,
-              omega (arith, m .reached .1, rules-same),
-              sym (target-same (m .reached .0)) ∙ m .reached .2,
-              ap (λ (w : ℕ). time w +ℤ delay (m .reached .0)) (sym (source-same (m .reached .0))) ∙ m .reached .3,
-            );
-            bound = λ i l e.
-                subst (λ (w : ℕ). (time w +ℤ delay i) ≤ℤ time v) (source-same i)
-                (m .bound i (omega (arith, l, rules-same)) (target-same i ∙ e));
-          }
 
 -- ---- times that follow from nearby delays
 
@@ -145,9 +108,6 @@ module _ {b : ℕ} {c : Graph} (ec : EventGraph b c) (e : ℕ) {delay time delay
   not-later v h = not-later-within (suc (rank v)) v (le-refl (suc (rank v))) h
 
 -- ---- an execution of g, moved to h
-
-follows : {g : Graph} {delay time : ℕ → ℤ} → Execution g delay time → Follows g delay time
-follows x = record { root = x .root; others = x .others }
 
 module _ {b b′ : ℕ} {c g h : Graph} (ec : EventGraph b c) (eh : EventGraph b′ h) (cg : SameRules c g) (ch : SameRules c h) (e : ℕ) (near : DelaysNear e g h) where
   -- rule i of h takes the delay nearest to the one that it took in g

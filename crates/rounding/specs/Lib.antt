@@ -1,2 +1,3 @@
 -- Rounding outward to steps of q. Document 01, section "Coarse form".
 pub mod Rounding
+pub mod Beside

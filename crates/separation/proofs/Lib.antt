@@ -14,3 +14,4 @@ pub mod Counting
 pub mod Placement
 pub mod Arranging
 pub mod Exact
+pub mod Outward

@@ -15,6 +15,7 @@ mod links;
 mod lists;
 mod order;
 mod paths;
+mod rounded;
 
 use crate::analysis::analyse;
 use crate::input::check_input;

@@ -1,0 +1,146 @@
+-- What rounding outward may cost: demand 3, second sentence.
+--     rounded-wider          every interval of the rounded graph holds that of the graph
+--     rounded-near           no delay moves by more than q − 1
+--     rounded-event-graph    the rounded graph keeps the rules of an event graph, with delays up to 1,000,999
+--     never-below            a coarse answer is never below the exact one
+--     costs-at-most          and at most (q − 1) × (depth of source + depth of target) above it
+--     coarse-size            a coarse answer stays within 2,048,043,954 either side of zero
+--     coarse-unique          a graph, a step and two events have one coarse answer
+--     step-one               with q = 1 the coarse answer is the exact one
+-- The idea. A bound goes outward, so every execution of the graph is one of the rounded graph (`widened`), whose greatest separation is thus no smaller. A bound
+-- moves to a multiple of q less than q away, so by q − 1 at most, and graphs whose delays differ by at most e have greatest separations that differ by at most
+-- e × the two depths (`maxima-near`). A number goes down to one multiple and up to one, so two rounded graphs have the same executions. Assumes nothing.
+use mathlib.Core.Path.{_≡_, ap, sym, subst}
+use Prim.Native.Nat.{ℕ, _+_, _-_, _*_, _<_, _≤_}
+use native.Mathlib.Omega.{arith}
+use lib.IntN.{ℤ, pos, _+ℤ_}
+use lib.Signed.{_≤ℤ_}
+use lib.ListN.{length}
+use Rattle.integers.specs.Within.{Within}
+use Rattle.integers.proofs.Integer.{linear}
+use Rattle.graphs.specs.Graph.{Graph, rules}
+use Rattle.graphs.specs.Path.{Depth}
+use Rattle.graphs.specs.Limits.{EventGraph, CountsKept, EndsKept, DelaysKept}
+use Rattle.executions.specs.Separation.{Separation, SameRules, DelaysNear}
+use Rattle.executions.proofs.Nearness.{maxima-near}
+use Rattle.executions.proofs.Same.{rules-same, source-same, target-same, same-exchanged, same-joined, path-same}
+use Rattle.executions.proofs.Sizes.{size}
+use Rattle.executions.proofs.Unique.{separation-unique}
+use Rattle.executions.proofs.Widening.{Wider, equal-wider, widening-never-lowers, separation-kept}
+use Rattle.rounding.specs.Rounding.{Rounded, CoarseSeparation}
+use Rattle.rounding.proofs.Multiples.{down-unique, up-unique, down-near, up-near, down-one, up-one, down-within, up-within}
+
+module _ {q : ℕ} {g h : Graph} (rounded : Rounded q g h) where
+  as-many : rules h ≡ rules g
+  as-many = rules-same (rounded .same)
+
+  rule-before : {i : ℕ} → i < rules h → i < rules g
+  rule-before l = omega (arith, l, as-many)
+
+  pub rounded-wider : Wider g h
+  rounded-wider =
+      record {
+        same = rounded .same;
+        leasts-lower = λ i l. rounded .down i l .not-above;
+        mosts-higher = λ i l. rounded .up i l .not-below;
+      }
+
+  pub rounded-near : DelaysNear (q - 1) g h
+  rounded-near =
+      record {
+        leasts-near = λ i l. down-near (rounded .down i l);
+        mosts-near = λ i l. up-near (rounded .up i l);
+      }
+
+  -- a coarse answer is never below the exact one
+  pub never-below : {s t : ℕ} {x y : ℤ} → Separation g s t x → Separation h s t y → x ≤ℤ y
+  never-below = widening-never-lowers rounded-wider
+
+-- ---- the rounded graph is an event graph
+
+module _ {q : ℕ} {g h : Graph} (eg : EventGraph 1000000 g) (small : q ≤ 1000) (rounded : Rounded q g h) where
+  same : SameRules g h
+  same = rounded .same
+
+  counts : CountsKept h
+  counts =
+      let k = eg .sized .counts in
+      record {
+        some-event = omega (arith, k .some-event, same .events-same);
+        few-events = omega (arith, k .few-events, same .events-same);
+        few-rules = omega (arith, k .few-rules, as-many rounded);
+        targets-match = omega (arith, k .targets-match, as-many rounded, ap length (same .targets-same));
+        leasts-match = omega (arith, k .leasts-match, as-many rounded, rounded .as-many-leasts);
+        mosts-match = omega (arith, k .mosts-match, as-many rounded, rounded .as-many-mosts);
+      }
+
+  ends : (i : ℕ) → i < rules h → EndsKept h i
+  ends i l =
+      let k = eg .sized .ends i (rule-before rounded l) in
+      record {
+        source-known = omega (arith, k .source-known, source-same same i, same .events-same);
+        target-known = omega (arith, k .target-known, target-same same i, same .events-same);
+      }
+
+  delays : (i : ℕ) → i < rules h → DelaysKept 1000999 h i
+  delays i l =
+      let r : i < rules g = rule-before rounded l in
+      let k = eg .sized .delays i r in
+      record {
+        least-within = down-within small (k .least-within) (rounded .down i r);
+        most-within = up-within small (k .most-within) (rounded .up i r);
+        ordered = omega (linear, k .ordered, rounded .down i r .not-above, rounded .up i r .not-below);
+      }
+
+  pub rounded-event-graph : EventGraph 1000999 h
+  rounded-event-graph =
+      record {
+        sized = record { counts = counts; ends = ends; delays = delays };
+        acyclic = λ c. let p = path-same same (c .1) in eg .acyclic (c .0, p .0, omega (arith, c .2, p .1));
+        reachable = λ v l. path-same (same-exchanged same) (eg .reachable v (omega (arith, l, same .events-same))) .0;
+      }
+
+-- ---- demand 3, second sentence
+
+-- y, the coarse answer, against x, the exact one; a and d are the depths of source and target
+pub record Costs (q a d : ℕ) (x y : ℤ) : Type 0 where
+  pub never-below-exact : x ≤ℤ y
+  pub at-most-above : y ≤ℤ (x +ℤ pos ((q - 1) * (a + d)))
+
+module _ {q : ℕ} {g : Graph} (eg : EventGraph 1000000 g) (small : q ≤ 1000) {s t : ℕ} (hs : s < g .events) (ht : t < g .events) where
+  pub costs-at-most : {a d : ℕ} {x y : ℤ} → Depth g s a → Depth g t d → Separation g s t x → CoarseSeparation q g s t y → Costs q a d x y
+  costs-at-most da dd exact coarse =
+      let r = coarse .rounded in
+      record {
+        never-below-exact = never-below r exact (coarse .greatest);
+        at-most-above =
+            maxima-near eg (rounded-event-graph eg small r) (r .same) (q - 1) (rounded-near r) hs ht da dd exact (coarse .greatest) .not-below;
+      }
+
+  -- "A coarse one stays within 2,048,043,954 either side of zero"
+  pub coarse-size : {y : ℤ} → CoarseSeparation q g s t y → Within 2048043954 y
+  coarse-size coarse =
+      let e = coarse .rounded .same .events-same in
+      size (rounded-event-graph eg small (coarse .rounded)) (subst (λ (n : ℕ). s < n) (sym e) hs) (subst (λ (n : ℕ). t < n) (sym e) ht) (coarse .greatest)
+
+-- ---- one answer
+
+-- two graphs that a graph is rounded to differ in no delay
+rounded-again : {q : ℕ} {g h k : Graph} → Rounded q g h → Rounded q g k → Wider h k
+rounded-again {h = h} {k = k} a b =
+    equal-wider (same-joined (a .same) (b .same))
+    (λ i l. down-unique (a .down i (rule-before a l)) (b .down i (rule-before a l)))
+    (λ i l. up-unique (a .up i (rule-before a l)) (b .up i (rule-before a l)))
+
+pub coarse-unique : {q : ℕ} {g : Graph} {s t : ℕ} {x y : ℤ} → CoarseSeparation q g s t x → CoarseSeparation q g s t y → x ≡ y
+coarse-unique a b =
+    separation-unique (separation-kept (rounded-again (a .rounded) (b .rounded)) (rounded-again (b .rounded) (a .rounded)) (a .greatest)) (b .greatest)
+
+-- with q = 1 a bound stays where it is
+pub step-one : {g : Graph} {s t : ℕ} {y : ℤ} → CoarseSeparation 1 g s t y → Separation g s t y
+step-one {g} a =
+    let r = a .rounded in
+    let narrower : Wider (a .graph) g =
+    equal-wider (same-exchanged (r .same)) (λ i l. sym (down-one (r .down i (rule-before r l)))) (λ i l. sym (up-one (r .up i (rule-before r l))))
+    in
+    separation-kept narrower (rounded-wider r) (a .greatest)

@@ -1,0 +1,3 @@
+-- The theorems about rounded graphs.
+pub mod Multiples
+pub mod Costs
