@@ -3,6 +3,7 @@
 --     follows, follows-same           times that follow from delays by the rules of one follow by the rules of the other
 --     same-exchanged, same-joined     SameRules read the other way; two graphs with the rules of a third have the same rules
 --     path-same                       a path of one is a path of the other, with as many rules
+--     cycle-same                      a cycle of one is a cycle of the other
 --     depth-same                      an event has the same depth in both
 -- Assumes nothing.
 use mathlib.Core.Path.{_≡_, refl, ap, sym, subst, _∙_}
@@ -13,7 +14,7 @@ use lib.IntN.{ℤ, pos, _+ℤ_}
 use lib.Signed.{_≤ℤ_}
 use lib.ListN.{length, getD}
 use Rattle.graphs.specs.Graph.{Graph, rules, source, target, Greatest}
-use Rattle.graphs.specs.Path.{Path, Depth, steps}
+use Rattle.graphs.specs.Path.{Path, HasCycle, Depth, steps}
 use Rattle.graphs.specs.Path.Path.{stay, step}
 use Rattle.executions.specs.Execution.{Execution}
 use Rattle.executions.specs.Separation.{SameRules}
@@ -87,3 +88,8 @@ depth-same same d =
       reached = (r .0, r .1 ∙ d .reached .1);
       bound = λ p. let back = path-same (same-exchanged same) p in omega (arith, d .bound (back .0), back .1);
     }
+
+pub cycle-same : {c g : Graph} → SameRules c g → HasCycle g → HasCycle c
+cycle-same same k =
+    let r = path-same same (k .1) in
+    (k .0, r .0, omega (arith, k .2, r .1))

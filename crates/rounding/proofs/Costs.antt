@@ -1,6 +1,7 @@
 -- What rounding outward may cost: demand 3, second sentence.
 --     rounded-wider          every interval of the rounded graph holds that of the graph
 --     rounded-near           no delay moves by more than q − 1
+--     rounded-sized          the rounded graph keeps the counts, its events exist, and its delays lie within 1,000,999
 --     rounded-event-graph    the rounded graph keeps the rules of an event graph, with delays up to 1,000,999
 --     never-below            a coarse answer is never below the exact one
 --     costs-at-most          and at most (q − 1) × (depth of source + depth of target) above it
@@ -11,23 +12,23 @@
 -- moves to a multiple of q less than q away, so by q − 1 at most, and graphs whose delays differ by at most e have greatest separations that differ by at most
 -- e × the two depths (`maxima-near`). A number goes down to one multiple and up to one, so two rounded graphs have the same executions. Assumes nothing.
 use mathlib.Core.Path.{_≡_, ap, sym, subst}
-use Prim.Native.Nat.{ℕ, _+_, _-_, _*_, _<_, _≤_}
+use Prim.Native.Nat.{ℕ, _-_, _<_, _≤_}
 use native.Mathlib.Omega.{arith}
-use lib.IntN.{ℤ, pos, _+ℤ_}
+use lib.IntN.{ℤ}
 use lib.Signed.{_≤ℤ_}
 use lib.ListN.{length}
 use Rattle.integers.specs.Within.{Within}
 use Rattle.integers.proofs.Integer.{linear}
 use Rattle.graphs.specs.Graph.{Graph, rules}
 use Rattle.graphs.specs.Path.{Depth}
-use Rattle.graphs.specs.Limits.{EventGraph, CountsKept, EndsKept, DelaysKept}
+use Rattle.graphs.specs.Limits.{Sized, EventGraph, CountsKept, EndsKept, DelaysKept}
 use Rattle.executions.specs.Separation.{Separation, SameRules, DelaysNear}
 use Rattle.executions.proofs.Nearness.{maxima-near}
-use Rattle.executions.proofs.Same.{rules-same, source-same, target-same, same-exchanged, same-joined, path-same}
+use Rattle.executions.proofs.Same.{rules-same, source-same, target-same, same-exchanged, same-joined, path-same, cycle-same}
 use Rattle.executions.proofs.Sizes.{size}
 use Rattle.executions.proofs.Unique.{separation-unique}
 use Rattle.executions.proofs.Widening.{Wider, equal-wider, widening-never-lowers, separation-kept}
-use Rattle.rounding.specs.Rounding.{Rounded, CoarseSeparation}
+use Rattle.rounding.specs.Rounding.{Rounded, CoarseSeparation, Costs}
 use Rattle.rounding.proofs.Multiples.{down-unique, up-unique, down-near, up-near, down-one, up-one, down-within, up-within}
 
 module _ {q : ℕ} {g h : Graph} (rounded : Rounded q g h) where
@@ -58,13 +59,13 @@ module _ {q : ℕ} {g h : Graph} (rounded : Rounded q g h) where
 
 -- ---- the rounded graph is an event graph
 
-module _ {q : ℕ} {g h : Graph} (eg : EventGraph 1000000 g) (small : q ≤ 1000) (rounded : Rounded q g h) where
+module _ {q : ℕ} {g h : Graph} (sized : Sized 1000000 g) (small : q ≤ 1000) (rounded : Rounded q g h) where
   same : SameRules g h
   same = rounded .same
 
   counts : CountsKept h
   counts =
-      let k = eg .sized .counts in
+      let k = sized .counts in
       record {
         some-event = omega (arith, k .some-event, same .events-same);
         few-events = omega (arith, k .few-events, same .events-same);
@@ -76,7 +77,7 @@ module _ {q : ℕ} {g h : Graph} (eg : EventGraph 1000000 g) (small : q ≤ 1000
 
   ends : (i : ℕ) → i < rules h → EndsKept h i
   ends i l =
-      let k = eg .sized .ends i (rule-before rounded l) in
+      let k = sized .ends i (rule-before rounded l) in
       record {
         source-known = omega (arith, k .source-known, source-same same i, same .events-same);
         target-known = omega (arith, k .target-known, target-same same i, same .events-same);
@@ -85,27 +86,26 @@ module _ {q : ℕ} {g h : Graph} (eg : EventGraph 1000000 g) (small : q ≤ 1000
   delays : (i : ℕ) → i < rules h → DelaysKept 1000999 h i
   delays i l =
       let r : i < rules g = rule-before rounded l in
-      let k = eg .sized .delays i r in
+      let k = sized .delays i r in
       record {
         least-within = down-within small (k .least-within) (rounded .down i r);
         most-within = up-within small (k .most-within) (rounded .up i r);
         ordered = omega (linear, k .ordered, rounded .down i r .not-above, rounded .up i r .not-below);
       }
 
-  pub rounded-event-graph : EventGraph 1000999 h
-  rounded-event-graph =
-      record {
-        sized = record { counts = counts; ends = ends; delays = delays };
-        acyclic = λ c. let p = path-same same (c .1) in eg .acyclic (c .0, p .0, omega (arith, c .2, p .1));
-        reachable = λ v l. path-same (same-exchanged same) (eg .reachable v (omega (arith, l, same .events-same))) .0;
-      }
+  pub rounded-sized : Sized 1000999 h
+  rounded-sized = record { counts = counts; ends = ends; delays = delays }
+
+pub rounded-event-graph : {q : ℕ} {g h : Graph} → EventGraph 1000000 g → q ≤ 1000 → Rounded q g h → EventGraph 1000999 h
+rounded-event-graph eg small rounded =
+    let same = rounded .same in
+    record {
+      sized = rounded-sized (eg .sized) small rounded;
+      acyclic = λ c. eg .acyclic (cycle-same same c);
+      reachable = λ v l. path-same (same-exchanged same) (eg .reachable v (omega (arith, l, same .events-same))) .0;
+    }
 
 -- ---- demand 3, second sentence
-
--- y, the coarse answer, against x, the exact one; a and d are the depths of source and target
-pub record Costs (q a d : ℕ) (x y : ℤ) : Type 0 where
-  pub never-below-exact : x ≤ℤ y
-  pub at-most-above : y ≤ℤ (x +ℤ pos ((q - 1) * (a + d)))
 
 module _ {q : ℕ} {g : Graph} (eg : EventGraph 1000000 g) (small : q ≤ 1000) {s t : ℕ} (hs : s < g .events) (ht : t < g .events) where
   pub costs-at-most : {a d : ℕ} {x y : ℤ} → Depth g s a → Depth g t d → Separation g s t x → CoarseSeparation q g s t y → Costs q a d x y

@@ -15,3 +15,4 @@ pub mod Placement
 pub mod Arranging
 pub mod Exact
 pub mod Outward
+pub mod Coarsely

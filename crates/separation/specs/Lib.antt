@@ -10,3 +10,4 @@ pub mod Lists
 pub mod Targets
 pub mod Arrival
 pub mod Placing
+pub mod Coarse

@@ -1,13 +1,16 @@
 // The greatest separation of two events of an event graph, exactly, with the schedule that reaches it.
 //     separation    the number and both depths, or the refusal with its place
 //     schedule      the same, with the whole latest schedule written into two lent lists
-// No caller is trusted: every list, length and number gets an answer. The promises are in specs/Promise.antt.
+//     coarse_separation    the separation of the graph whose delays are rounded outward to steps of q
+// No caller is trusted: every list, length and number gets an answer. The promises are in specs/Promise.antt and specs/Coarse.antt.
 ghost use Rattle.graphs.specs.Graph.{graphOf};
 ghost use Rattle.separation.specs.Promise.{Answered, ShortLists, Written};
+ghost use Rattle.separation.specs.Coarse.{CoarseAnswered};
 
 mod analysis;
 mod answers;
 mod checks;
+mod coarse;
 mod depths;
 mod input;
 mod latest;
@@ -18,10 +21,14 @@ mod paths;
 mod rounded;
 
 use crate::analysis::analyse;
+use crate::answers::refused;
+use crate::coarse::analyse_rounded;
+use crate::coarse::step_outside;
 use crate::input::check_input;
 use crate::lists::too_short;
 use crate::lists::write_delays;
 use crate::lists::write_times;
+use crate::rounded::round_delays;
 
 // The answer to a question of separation. `refusal` is 0, or the number of document 01's table, with its place.
 pub struct Answer {
@@ -81,4 +88,30 @@ pub fn schedule(
     write_times(n, &latest, times);
     write_delays(sources, targets, mosts, times, delays);
     answer
+}
+
+// The coarse form: the greatest t(t) − t(s) over all executions of the graph whose delays are rounded outward to steps of q, and the depths of s and t.
+pub fn coarse_separation(
+    n: usize,
+    sources: &[usize],
+    targets: &[usize],
+    leasts: &[i64],
+    mosts: &[i64],
+    s: usize,
+    t: usize,
+    q: usize,
+) -> Answer
+    ensures { λ r. ⌜ CoarseAnswered (graphOf n (now (sources .entry)) (now (targets .entry)) (now (leasts .entry)) (now (mosts .entry))) q s t r ⌝ }
+{
+    let input = check_input(n, sources, targets, leasts, mosts, s, t, false);
+    if input.refusal != 0 {
+        return input;
+    }
+    if step_outside(q) {
+        return refused(9, q);
+    }
+    let mut low = [0i64; 4096];
+    let mut high = [0i64; 4096];
+    round_delays(q, leasts, mosts, &mut low, &mut high);
+    analyse_rounded(n, sources, targets, &low, &high, s, t)
 }

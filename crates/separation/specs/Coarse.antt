@@ -1,0 +1,40 @@
+-- The promise of the coarse form. Document 01, sections "Coarse form" and "Refusal numbers"; demand 3, second sentence.
+--     StepOutside q p         == refusal 9: "q is 0 or above 1,000", place q
+--     CoarseVerdict g q s t   == the refusals 1, 2, 3, 4, 9, 5, 6, in this order
+--     CoarseFound g q s t a   == the values of an answer that is no refusal
+--     CoarseAnswered g q s t a == a is the answer: the verdict's number and place, and the values where nothing is refused
+-- That the answer is never below the exact maximum, and how far above it may be, is proved in proofs/CoarsePromises.antt. Assumes nothing.
+use mathlib.Core.Path.{_≡_}
+use mathlib.Core.Logic.{_⊎_}
+use Prim.Native.Nat.{ℕ, _<_, _≤_}
+use Rattle.graphs.specs.Graph.{Graph}
+use Rattle.graphs.specs.Path.{Depth}
+use Rattle.graphs.specs.Limits.{EventGraph}
+use Rattle.graphs.specs.Refusal.{First}
+use Rattle.rounding.specs.Rounding.{CoarseSeparation}
+use Rattle.separation.specs.declared.Answer.{Answer}
+use Rattle.separation.specs.Promise.{InputVerdict, PathVerdict, Nothing}
+
+pub record StepOutside (q p : ℕ) : Type 0 where
+  pub its-place : p ≡ q
+  pub outside : (q ≡ 0) ⊎ (1000 < q)
+
+-- "analysis 1, 2, 3, 4, 9 (coarse form only), 5, 6"; no list is lent
+abbrev pub CoarseVerdict : Graph → ℕ → ℕ → ℕ → ℕ → ℕ → Type 0
+CoarseVerdict g q s t = InputVerdict g s t ⊥ (First 9 (StepOutside q) (PathVerdict g))
+
+-- "The answer is the separation of the rounded graph, in ticks"; the depths are those of s and t
+pub record CoarseFound (g : Graph) (q s t : ℕ) (a : Answer) : Type 0 where
+  pub graph : EventGraph 1000000 g
+  pub source-known : s < g .events
+  pub target-known : t < g .events
+  pub step-positive : 1 ≤ q
+  pub step-small : q ≤ 1000
+  pub greatest : CoarseSeparation q g s t (a .separation)
+  pub depth-of-source : Depth g s (a .«source_depth»)
+  pub depth-of-target : Depth g t (a .«target_depth»)
+
+pub record CoarseAnswered (g : Graph) (q s t : ℕ) (a : Answer) : Type 0 where
+  pub verdict : CoarseVerdict g q s t (a .refusal) (a .place)
+  pub found : a .refusal ≡ 0 → CoarseFound g q s t a
+  pub nothing : (a .refusal ≡ 0 → ⊥) → Nothing a
