@@ -16,3 +16,4 @@ pub mod Arranging
 pub mod Exact
 pub mod Outward
 pub mod Coarsely
+pub mod CoarsePromises

@@ -19,7 +19,7 @@ use Rattle.separation.specs.Promise.{Answered, Found, Nothing, Written, 
 use Rattle.separation.proofs.Verdicts.{verdict-unique}
 
 -- an answer is its five numbers
-same-answer : {a b : Answer} → a .refusal ≡ b .refusal → a .place ≡ b .place → a .separation ≡ b .separation → a .«source_depth» ≡ b .«source_depth» → a .«target_depth» ≡ b .«target_depth» → a ≡ b
+pub same-answer : {a b : Answer} → a .refusal ≡ b .refusal → a .place ≡ b .place → a .separation ≡ b .separation → a .«source_depth» ≡ b .«source_depth» → a .«target_depth» ≡ b .«target_depth» → a ≡ b
 same-answer e f h k l = λ i. record { refusal = e i; place = f i; separation = h i; «source_depth» = k i; «target_depth» = l i }
 
 module _ {g : Graph} {s t : ℕ} {Short : Type 0} {a b : Answer} (pa : Answered g s t Short a) (pb : Answered g s t Short b) where

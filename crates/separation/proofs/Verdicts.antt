@@ -32,7 +32,7 @@ module _ {g : Graph} {s t : ℕ} where
   missing-end-unique (target-missing h m) (source-missing l) = absurd (let no : ⊥ = omega arith in no)
   missing-end-unique (target-missing h m) (target-missing i l) = refl
 
-first-more : {k : ℕ} {At : ℕ → Type 0} {Rest Rest′ : ℕ → ℕ → Type 0} {j p : ℕ} → (Rest j p → Rest′ j p) → First k At Rest j p → First k At Rest′ j p
+pub first-more : {k : ℕ} {At : ℕ → Type 0} {Rest Rest′ : ℕ → ℕ → Type 0} {j p : ℕ} → (Rest j p → Rest′ j p) → First k At Rest j p → First k At Rest′ j p
 first-more f (given a) = given a
 first-more f (passed n r) = passed n (f r)
 
