@@ -2,11 +2,12 @@
 --     lesser-min           the lesser of two numbers
 --     greatest-delay       the lesser of the target's time less the source's and the most delay is the greatest delay that 01's schedule asks
 --     executes             times that keep every least delay and are reached, with such delays, are an execution
---     bounded→execution, execution→bounded     the two readings
+--     bounded→execution, execution→bounded     from one reading to the other
+--     readings-agree       both at once
 -- The idea. Given times by bounds, let each rule take the greatest delay in its interval that doesn't carry its source past its target's time.
 -- No event is then late; and the rule that bounds an event from above takes exactly the difference of the two times. Assumes nothing.
 use mathlib.Core.Path.{_≡_, refl, ap, sym, subst}
-use mathlib.Core.Logic.{_⊎_, inl, inr, ⊎-elim}
+use mathlib.Core.Logic.{_⊎_, inl, inr, ⊎-elim, _↔_}
 use mathlib.Core.Bool.{Bool, true, false, cond}
 use Prim.Native.Nat.{ℕ, zero, suc, _<_}
 use native.Mathlib.Decide.{ℕ-discrete}
@@ -125,3 +126,7 @@ module _ {b : ℕ} {g : Graph} (eg : EventGraph b g) where
                   sum (time (source g i)) (delay i),
                 );
           }
+
+  -- "The two readings admit the same times"
+  pub readings-agree : (time : ℕ → ℤ) → Bounded g time ↔ ((delay : ℕ → ℤ) × Execution g delay time)
+  readings-agree time = (λ x. bounded→execution x, λ x. execution→bounded (x .1))

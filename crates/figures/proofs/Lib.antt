@@ -2,5 +2,6 @@
 pub mod Tests
 pub mod Certificate
 pub mod Checked
+pub mod Roundings
 pub mod Passed
 pub mod Figures

@@ -6,20 +6,21 @@
 -- Assumes nothing.
 use mathlib.Core.Path.{subst}
 use mathlib.Core.Bool.{Bool, _&&_}
-use Prim.Native.Nat.{ℕ, _<_}
-use lib.IntN.{pos}
+use Prim.Native.Nat.{ℕ, _+_, _-_, _*_, _<_}
+use lib.IntN.{ℤ, pos, _+ℤ_}
 use lib.ListN.{length, getD}
 use lib.Dec.{T, ltb, eqb, ltb→lt, eqb→eq}
-use Rattle.graphs.specs.Graph.{Graph, rules}
+use Rattle.graphs.specs.Graph.{Graph, graphOf, rules}
 use Rattle.graphs.specs.Path.{Depth}
 use Rattle.graphs.specs.Limits.{Sized, EventGraph}
 use Rattle.executions.specs.Separation.{Separation}
 use Rattle.executions.specs.Steps.{U}
 use Rattle.executions.proofs.Schedules.{schedule-of, separation-of}
-use Rattle.figures.specs.Figures.{Figure, Holds}
-use Rattle.figures.specs.Figures.Figure.{separation-is, depths-are, schedule-is, both}
+use Rattle.figures.specs.Figures.{Figure, SeparationIs, DepthsAre, Holds}
+use Rattle.figures.specs.Figures.Figure.{separation-is, depths-are, schedule-is, coarse-is, limit-met, both}
 use Rattle.figures.proofs.Tests.{both-pass, eqZ, eqZ-passes}
 use Rattle.figures.proofs.Certificate.{Certificate, depthAt, mAt, uAt, keepsLimits, limits-kept, keepsDepths, Depths, depths-kept, keepsM, ms-kept, keepsU, us-kept, keepsSchedule, times-kept, delays-lesser}
+use Rattle.figures.proofs.Roundings.{roundsTo, rounds-to}
 use Rattle.figures.proofs.Checked.{checked-graph, checked-depth, checked-u}
 
 abbrev pub graphPasses : Certificate → Graph → Bool
@@ -28,15 +29,23 @@ graphPasses c g = keepsLimits 1000000 g && keepsDepths g (depthAt c)
 abbrev pub stepsPass : Certificate → Graph → ℕ → Bool
 stepsPass c g s = ltb s (g .events) && (keepsM g s (mAt c) && keepsU g (mAt c) (uAt c))
 
+abbrev separationPasses : Certificate → Graph → ℕ → ℕ → ℤ → Bool
+separationPasses c g s t x = graphPasses c g && (stepsPass c g s && (ltb t (g .events) && eqZ (uAt c t) x))
+
+abbrev depthsPass : Certificate → Graph → ℕ → ℕ → ℕ → ℕ → Bool
+depthsPass c g s t a d = graphPasses c g && ((ltb s (g .events) && eqb (depthAt c s) a) && (ltb t (g .events) && eqb (depthAt c t) d))
+
 abbrev pub passes : Certificate → Figure → Bool
-passes c (separation-is g s t x) = graphPasses c g && (stepsPass c g s && (ltb t (g .events) && eqZ (uAt c t) x))
-passes c (depths-are g s t a d) =
-    graphPasses c g && ((ltb s (g .events) && eqb (depthAt c s) a) && (ltb t (g .events) && eqb (depthAt c t) d))
+passes c (separation-is g s t x) = separationPasses c g s t x
+passes c (depths-are g s t a d) = depthsPass c g s t a d
 passes c (schedule-is g s times delays) =
     graphPasses c g &&
     (stepsPass c g s &&
     ((eqb (length times) (g .events) && eqb (length delays) (rules g)) &&
     keepsSchedule g (uAt c) (λ i. getD delays i (pos 0)) (λ v. getD times v (pos 0))))
+passes c (coarse-is g q lows highs s t x) =
+    graphPasses c g && (roundsTo q g lows highs && separationPasses c (graphOf (g .events) (g .sources) (g .targets) lows highs) s t x)
+passes c (limit-met g q s t a d x y) = depthsPass c g s t a d && eqZ y (x +ℤ pos ((q - 1) * (a + d)))
 passes c (both f h) = passes c f && passes c h
 
 module _ (c : Certificate) (g : Graph) (t : T (graphPasses c g)) where
@@ -64,8 +73,8 @@ module _ (c : Certificate) (g : Graph) (t : T (graphPasses c g)) where
         let (m, u) = both-pass (keepsM g s (mAt c)) _ both-steps in
         checked-u sized depths (ms-kept g s (mAt c) m) (us-kept g (mAt c) (uAt c) u)
 
-pub passed : (c : Certificate) (f : Figure) → T (passes c f) → Holds f
-passed c (separation-is g s t x) p =
+separation-passed : (c : Certificate) (g : Graph) (s t : ℕ) (x : ℤ) → T (separationPasses c g s t x) → SeparationIs g s t x
+separation-passed c g s t x p =
     let (tg, rest) = both-pass (graphPasses c g) _ p in
     let (ts, tx) = both-pass (stepsPass c g s) _ rest in
     let (known, same) = both-pass (ltb t (g .events)) _ tx in
@@ -78,10 +87,16 @@ passed c (separation-is g s t x) p =
           subst (Separation g s t) (eqZ-passes (uAt c t) x same)
           (separation-of (event-graph c g tg) (depthAt c) (depths c g tg .grows) (source-event c g tg s ts) (u-is c g tg s ts) t target-event);
     }
-passed c (depths-are g s t a d) p =
+
+depths-passed : (c : Certificate) (g : Graph) (s t a d : ℕ) → T (depthsPass c g s t a d) → DepthsAre g s t a d
+depths-passed c g s t a d p =
     let (tg, rest) = both-pass (graphPasses c g) _ p in
     let (da, dd) = both-pass (ltb s (g .events) && eqb (depthAt c s) a) _ rest in
     record { source-depth = depth-is c g tg s a da; target-depth = depth-is c g tg t d dd }
+
+pub passed : (c : Certificate) (f : Figure) → T (passes c f) → Holds f
+passed c (separation-is g s t x) p = separation-passed c g s t x p
+passed c (depths-are g s t a d) p = depths-passed c g s t a d p
 passed c (schedule-is g s times delays) p =
     let (tg, rest) = both-pass (graphPasses c g) _ p in
     let (ts, lists) = both-pass (stepsPass c g s) _ rest in
@@ -95,6 +110,21 @@ passed c (schedule-is g s times delays) p =
           (times-kept g (uAt c) (λ i. getD delays i (pos 0)) (λ v. getD times v (pos 0)) kept)
           (delays-lesser g (uAt c) (λ i. getD delays i (pos 0)) (λ v. getD times v (pos 0)) kept);
     }
+passed c (coarse-is g q lows highs s t x) p =
+    let (tg, rest) = both-pass (graphPasses c g) _ p in
+    let (tr, tx) = both-pass (roundsTo q g lows highs) _ rest in
+    let rounded = rounds-to q g lows highs tr in
+    let answer = separation-passed c (graphOf (g .events) (g .sources) (g .targets) lows highs) s t x tx in
+    record {
+      event-graph = event-graph c g tg;
+      source-event = answer .source-event;
+      target-event = answer .target-event;
+      rounded = rounded;
+      coarse = record { graph = graphOf (g .events) (g .sources) (g .targets) lows highs; rounded = rounded; greatest = answer .separation };
+    }
+passed c (limit-met g q s t a d x y) p =
+    let (td, ty) = both-pass (depthsPass c g s t a d) _ p in
+    record { depths = depths-passed c g s t a d td; limit = eqZ-passes y (x +ℤ pos ((q - 1) * (a + d))) ty }
 passed c (both f h) p =
     let (first, second) = both-pass (passes c f) _ p in
     (passed c f first, passed c h second)

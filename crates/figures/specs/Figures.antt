@@ -1,25 +1,28 @@
 -- The figures to check by, those that 01 marks P, as statements about the definitions. Document 01, section "Figures to check by".
---     one, row, fork, pair        == the graphs that the figures speak of
+--     one, row, fork, pair, below == the graphs that the figures speak of
 --     Figure                      == what one figure says
 --       separation-is g s t x     == g is an event graph with the events s and t, and x is the separation of t from s
 --       depths-are g s t a d      == the depth of s is a, and that of t is d
 --       schedule-is g s times delays == the two lists are the whole latest schedule against s, and no longer
+--       coarse-is g q lows highs s t x == rounded outward to steps of q, the delays of g are lows and highs, and the coarse answer is x
+--       limit-met g q s t a d x y == y, the coarse answer, is (q − 1) × (a + d) above x, the exact one; a and d are the depths of s and t
 --       both f h                  == f, and h
---     Holds f                     == what f says, in terms of the crates graphs and executions
---     P1 … P7                     == the figures
+--     Holds f                     == what f says, in terms of the crates graphs, executions and rounding
+--     P1 … P10                    == the figures
 --     figures                     == all of them, in a single list
 --     AllHold fs                  == every figure of the list holds: the one claim, proved in proofs/Figures.antt for `figures`
 -- Assumes nothing.
 use mathlib.Core.Path.{_≡_}
 use mathlib.Core.List.{List, [], _∷_}
-use Prim.Native.Nat.{ℕ, _<_}
-use lib.IntN.{ℤ, pos, negℤ}
+use Prim.Native.Nat.{ℕ, _+_, _-_, _*_, _<_}
+use lib.IntN.{ℤ, pos, negℤ, _+ℤ_}
 use lib.ListN.{length, getD}
 use Rattle.graphs.specs.Graph.{Graph, graphOf, rules}
 use Rattle.graphs.specs.Path.{Depth}
 use Rattle.graphs.specs.Limits.{EventGraph}
 use Rattle.executions.specs.Separation.{Separation}
 use Rattle.executions.specs.Schedule.{Schedule}
+use Rattle.rounding.specs.Rounding.{Rounded, CoarseSeparation}
 
 -- ---- the graphs
 
@@ -39,12 +42,18 @@ fork = graphOf 4 (0 ∷ 0 ∷ 1 ∷ 2 ∷ []) (1 ∷ 2 ∷ 3 ∷ 3 ∷ []) (pos 
 abbrev pub pair : Graph
 pair = graphOf 2 (0 ∷ 0 ∷ []) (1 ∷ 1 ∷ []) (pos 1 ∷ pos 0 ∷ []) (pos 2 ∷ pos 5 ∷ [])
 
+-- "0→1 [−3, −1]"
+abbrev pub below : Graph
+below = graphOf 2 (0 ∷ []) (1 ∷ []) (negℤ (pos 3) ∷ []) (negℤ (pos 1) ∷ [])
+
 -- ---- what a figure says
 
 pub data Figure : Type 0 where
   separation-is : Graph → ℕ → ℕ → ℤ → Figure
   depths-are : Graph → ℕ → ℕ → ℕ → ℕ → Figure
   schedule-is : Graph → ℕ → List ℤ → List ℤ → Figure
+  coarse-is : Graph → ℕ → List ℤ → List ℤ → ℕ → ℕ → ℤ → Figure
+  limit-met : Graph → ℕ → ℕ → ℕ → ℕ → ℕ → ℤ → ℤ → Figure
   both : Figure → Figure → Figure
 
 -- the graph keeps 01's limits, s and t exist, and "the answer is the greatest t(t) − t(s) over all executions"
@@ -65,10 +74,25 @@ pub record ScheduleIs (g : Graph) (s : ℕ) (times delays : List ℤ) : Type 0 w
   pub a-delay-each : length delays ≡ rules g
   pub schedule : Schedule g s (λ i. getD delays i (pos 0)) (λ v. getD times v (pos 0))
 
+-- "Each least delay goes down to a multiple of q and each most delay goes up to one … The answer is the separation of the rounded graph"
+pub record CoarseIs (g : Graph) (q : ℕ) (lows highs : List ℤ) (s t : ℕ) (x : ℤ) : Type 0 where
+  pub event-graph : EventGraph 1000000 g
+  pub source-event : s < g .events
+  pub target-event : t < g .events
+  pub rounded : Rounded q g (graphOf (g .events) (g .sources) (g .targets) lows highs)
+  pub coarse : CoarseSeparation q g s t x
+
+-- "Both meet demand 3's limit exactly"
+pub record LimitMet (g : Graph) (q s t a d : ℕ) (x y : ℤ) : Type 0 where
+  pub depths : DepthsAre g s t a d
+  pub limit : y ≡ x +ℤ pos ((q - 1) * (a + d))
+
 abbrev pub Holds : Figure → Type 0
 Holds (separation-is g s t x) = SeparationIs g s t x
 Holds (depths-are g s t a d) = DepthsAre g s t a d
 Holds (schedule-is g s times delays) = ScheduleIs g s times delays
+Holds (coarse-is g q lows highs s t x) = CoarseIs g q lows highs s t x
+Holds (limit-met g q s t a d x y) = LimitMet g q s t a d x y
 Holds (both f h) = Holds f × Holds h
 
 -- ---- the figures
@@ -103,9 +127,25 @@ P6 = separation-is pair 0 1 (pos 5)
 abbrev pub P7 : Figure
 P7 = separation-is pair 1 0 (negℤ (pos 1))
 
--- "P1 to P11 are proved about the definitions, gathered as a single list under one claim"; here P1 to P7
+-- "P8: 0→1 [−3, −1]: s = 0, t = 1 gives −1, and with q = 2 gives 0 … meet demand 3's limit exactly"; the interval becomes [−4, 0]
+abbrev pub P8 : Figure
+P8 =
+    both (separation-is below 0 1 (negℤ (pos 1)))
+    (both (coarse-is below 2 (negℤ (pos 4) ∷ []) (pos 0 ∷ []) 0 1 (pos 0)) (limit-met below 2 0 1 0 1 (negℤ (pos 1)) (pos 0)))
+
+-- "P9: s = 1, t = 0 gives 3, and with q = 2 gives 4. Both meet demand 3's limit exactly."
+abbrev pub P9 : Figure
+P9 =
+    both (separation-is below 1 0 (pos 3))
+    (both (coarse-is below 2 (negℤ (pos 4) ∷ []) (pos 0 ∷ []) 1 0 (pos 4)) (limit-met below 2 1 0 1 0 (pos 3) (pos 4)))
+
+-- "P10: row with q = 4, s = 2, t = 3: 8."
+abbrev pub P10 : Figure
+P10 = coarse-is row 4 (pos 0 ∷ pos 0 ∷ pos 0 ∷ []) (pos 100 ∷ pos 4 ∷ pos 8 ∷ []) 2 3 (pos 8)
+
+-- "P1 to P11 are proved about the definitions, gathered as a single list under one claim"; here P1 to P10
 abbrev pub figures : List Figure
-figures = P1 ∷ P2 ∷ P3 ∷ P4 ∷ P5 ∷ P6 ∷ P7 ∷ []
+figures = P1 ∷ P2 ∷ P3 ∷ P4 ∷ P5 ∷ P6 ∷ P7 ∷ P8 ∷ P9 ∷ P10 ∷ []
 
 abbrev pub AllHold : List Figure → Type 0
 AllHold [] = Unit {0}

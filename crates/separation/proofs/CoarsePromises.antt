@@ -4,10 +4,9 @@
 --     coarse-within           a coarse answer stays within 2,048,043,954 either side of zero
 --     coarse-one              with q = 1 the coarse answer is the exact one, refusals too
 -- Assumes nothing.
-use mathlib.Core.Path.{_≡_, refl, sym, _∙_}
+use mathlib.Core.Path.{_≡_, sym, _∙_}
 use mathlib.Core.Logic.{⊎-elim}
-use Prim.Native.Nat.{ℕ, _<_}
-use native.Mathlib.Decide.{ℕ-discrete}
+use Prim.Native.Nat.{ℕ}
 use native.Mathlib.Omega.{arith}
 use lib.IntN.{ℤ}
 use Rattle.integers.specs.Within.{Within}
@@ -18,37 +17,28 @@ use Rattle.executions.specs.Separation.{Separation}
 use Rattle.rounding.specs.Rounding.{Costs}
 use Rattle.rounding.proofs.Costs.{costs-at-most, coarse-size, coarse-unique, step-one}
 use Rattle.separation.specs.declared.Answer.{Answer}
-use Rattle.separation.specs.Promise.{PathVerdict, Answered, Found, Nothing}
-use Rattle.separation.specs.Coarse.{StepOutside, CoarseVerdict, CoarseFound, CoarseAnswered}
+use Rattle.separation.specs.Promise.{PathVerdict, Answered}
+use Rattle.separation.specs.Coarse.{StepOutside, CoarseVerdict, CoarseAnswered}
 use Rattle.separation.proofs.Verdicts.{first-more, input-unique, path-unique}
-use Rattle.separation.proofs.Promises.{same-answer}
+use Rattle.separation.proofs.Promises.{answers-agree}
 
 coarse-verdict-unique : {g : Graph} {r s t : ℕ} {i p j q : ℕ} → CoarseVerdict g r s t i p → CoarseVerdict g r s t j q → (i ≡ j) × (p ≡ q)
 coarse-verdict-unique = input-unique (λ i p j q. first-unique (λ p q a b. a .its-place ∙ sym (b .its-place)) (λ i p j q. path-unique))
 
 module _ {g : Graph} {q s t : ℕ} where
   pub coarse-answer-unique : {a b : Answer} → CoarseAnswered g q s t a → CoarseAnswered g q s t b → a ≡ b
-  coarse-answer-unique {a} {b} pa pb = go (ℕ-discrete (a .refusal) 0)
-    where
-      number : a .refusal ≡ b .refusal
-      number = coarse-verdict-unique (pa .verdict) (pb .verdict) .0
-
-      place : a .place ≡ b .place
-      place = coarse-verdict-unique (pa .verdict) (pb .verdict) .1
-
-      found : CoarseFound g q s t a → CoarseFound g q s t b → a ≡ b
-      found x y =
-          same-answer number place (coarse-unique (x .greatest) (y .greatest)) (depth-unique (x .depth-of-source) (y .depth-of-source))
-          (depth-unique (x .depth-of-target) (y .depth-of-target))
-
-      nothing : Nothing a → Nothing b → a ≡ b
-      nothing x y =
-          same-answer number place (x .no-separation ∙ sym (y .no-separation)) (x .no-source-depth ∙ sym (y .no-source-depth))
-          (x .no-target-depth ∙ sym (y .no-target-depth))
-
-      go : Dec (a .refusal ≡ 0) → a ≡ b
-      go (yes e) = found (pa .found e) (pb .found (sym number ∙ e))
-      go (no n) = nothing (pa .nothing n) (pb .nothing (λ e. n (number ∙ e)))
+  coarse-answer-unique pa pb =
+      answers-agree (coarse-verdict-unique (pa .verdict) (pb .verdict))
+      (λ e f.
+        let x = pa .found e in
+        let y = pb .found f in
+        record {
+          separations = coarse-unique (x .greatest) (y .greatest);
+          source-depths = depth-unique (x .depth-of-source) (y .depth-of-source);
+          target-depths = depth-unique (x .depth-of-target) (y .depth-of-target);
+        })
+      (pa .nothing)
+      (pb .nothing)
 
   -- the depths are those that the answer carries
   pub coarse-costs : {a : Answer} {x : ℤ} → CoarseAnswered g q s t a → a .refusal ≡ 0 → Separation g s t x → Costs q (a .«source_depth») (a .«target_depth») x (a .separation)

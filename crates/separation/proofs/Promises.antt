@@ -1,7 +1,10 @@
 -- The promises of the public functions fix their results: two results allowed for one input are equal, lists included.
+--     answers-agree      two answers that agree in number, place and values are equal
 --     answer-unique      two answers to one question
+--     answered-exactly   a refusal is given exactly when its rule says: whatever number and place the verdict allows, the answer has them
 --     times-unique       what two runs leave in the time list
 --     delays-unique      and in the delay list
+--     schedule-unique    all of it: two results of `schedule` are equal
 -- Assumes nothing.
 use mathlib.Core.Path.{_≡_, refl, sym, subst, _∙_}
 use mathlib.Core.List.{List}
@@ -15,36 +18,53 @@ use Rattle.graphs.specs.Graph.{Graph, rules}
 use Rattle.graphs.proofs.Unique.{depth-unique}
 use Rattle.executions.proofs.Unique.{separation-unique, schedule-times-unique, schedule-delays-unique}
 use Rattle.separation.specs.declared.Answer.{Answer}
-use Rattle.separation.specs.Promise.{Answered, Found, Nothing, Written, at}
+use Rattle.separation.specs.Promise.{Verdict, Answered, Nothing, Written, at}
 use Rattle.separation.proofs.Verdicts.{verdict-unique}
 
 -- an answer is its five numbers
-pub same-answer : {a b : Answer} → a .refusal ≡ b .refusal → a .place ≡ b .place → a .separation ≡ b .separation → a .«source_depth» ≡ b .«source_depth» → a .«target_depth» ≡ b .«target_depth» → a ≡ b
+same-answer : {a b : Answer} → a .refusal ≡ b .refusal → a .place ≡ b .place → a .separation ≡ b .separation → a .«source_depth» ≡ b .«source_depth» → a .«target_depth» ≡ b .«target_depth» → a ≡ b
 same-answer e f h k l = λ i. record { refusal = e i; place = f i; separation = h i; «source_depth» = k i; «target_depth» = l i }
 
-module _ {g : Graph} {s t : ℕ} {Short : Type 0} {a b : Answer} (pa : Answered g s t Short a) (pb : Answered g s t Short b) where
-  pub answer-unique : a ≡ b
-  answer-unique = go (ℕ-discrete (a .refusal) 0)
-    where
-      number : a .refusal ≡ b .refusal
-      number = verdict-unique (pa .verdict) (pb .verdict) .0
+pub record SameValues (a b : Answer) : Type 0 where
+  pub separations : a .separation ≡ b .separation
+  pub source-depths : a .«source_depth» ≡ b .«source_depth»
+  pub target-depths : a .«target_depth» ≡ b .«target_depth»
 
-      place : a .place ≡ b .place
-      place = verdict-unique (pa .verdict) (pb .verdict) .1
+pub answered-exactly : {g : Graph} {s t : ℕ} {Short : Type 0} {a : Answer} → Answered g s t Short a → {j p : ℕ} → Verdict g s t Short j p → (a .refusal ≡ j) × (a .place ≡ p)
+answered-exactly x v = verdict-unique (x .verdict) v
 
-      found : Found g s t a → Found g s t b → a ≡ b
-      found x y =
-          same-answer number place (separation-unique (x .greatest) (y .greatest)) (depth-unique (x .depth-of-source) (y .depth-of-source))
-          (depth-unique (x .depth-of-target) (y .depth-of-target))
+-- two answers with one number and place, whose values agree where there are values, are equal
+pub answers-agree : {a b : Answer} → (a .refusal ≡ b .refusal) × (a .place ≡ b .place) → (a .refusal ≡ 0 → b .refusal ≡ 0 → SameValues a b) → ((a .refusal ≡ 0 → ⊥) → Nothing a) → ((b .refusal ≡ 0 → ⊥) → Nothing b) → a ≡ b
+answers-agree {a} {b} same found nothing-a nothing-b = go (ℕ-discrete (a .refusal) 0)
+  where
+    alike : SameValues a b → a ≡ b
+    alike v = same-answer (same .0) (same .1) (v .separations) (v .source-depths) (v .target-depths)
 
-      nothing : Nothing a → Nothing b → a ≡ b
-      nothing x y =
-          same-answer number place (x .no-separation ∙ sym (y .no-separation)) (x .no-source-depth ∙ sym (y .no-source-depth))
-          (x .no-target-depth ∙ sym (y .no-target-depth))
+    both-nothing : Nothing a → Nothing b → SameValues a b
+    both-nothing x y =
+        record {
+          separations = x .no-separation ∙ sym (y .no-separation);
+          source-depths = x .no-source-depth ∙ sym (y .no-source-depth);
+          target-depths = x .no-target-depth ∙ sym (y .no-target-depth);
+        }
 
-      go : Dec (a .refusal ≡ 0) → a ≡ b
-      go (yes e) = found (pa .found e) (pb .found (sym number ∙ e))
-      go (no n) = nothing (pa .nothing n) (pb .nothing (λ e. n (number ∙ e)))
+    go : Dec (a .refusal ≡ 0) → a ≡ b
+    go (yes e) = alike (found e (sym (same .0) ∙ e))
+    go (no n) = alike (both-nothing (nothing-a n) (nothing-b (λ e. n (same .0 ∙ e))))
+
+pub answer-unique : {g : Graph} {s t : ℕ} {Short : Type 0} {a b : Answer} → Answered g s t Short a → Answered g s t Short b → a ≡ b
+answer-unique pa pb =
+    answers-agree (verdict-unique (pa .verdict) (pb .verdict))
+    (λ e f.
+      let x = pa .found e in
+      let y = pb .found f in
+      record {
+        separations = separation-unique (x .greatest) (y .greatest);
+        source-depths = depth-unique (x .depth-of-source) (y .depth-of-source);
+        target-depths = depth-unique (x .depth-of-target) (y .depth-of-target);
+      })
+    (pa .nothing)
+    (pb .nothing)
 
 -- lists that agree in the places up to n and beyond
 same-list : (n : ℕ) (xs ys : List ℤ) → length xs ≡ length ys → ((i : ℕ) → i < n → at xs i ≡ at ys i) → drop n xs ≡ drop n ys → xs ≡ ys
@@ -78,3 +98,12 @@ module _ {g : Graph} {s t : ℕ} {Short : Type 0} {a : Answer} (p : Answered g s
           same-list (rules g) delays delays′ (w .delays-length ∙ sym (w′ .delays-length))
           (schedule-delays-unique (p .found e .graph) (p .found e .source-known) (w .schedule e) (w′ .schedule e)) (w .delays-beyond e ∙ sym (w′ .delays-beyond e))
       go (no n) = w .delays-kept n ∙ sym (w′ .delays-kept n)
+
+pub schedule-unique : {g : Graph} {s t : ℕ} {Short : Type 0} {a b : Answer} {times₀ delays₀ times delays times′ delays′ : List ℤ} →
+    Answered g s t Short a → Written g s a times₀ delays₀ times delays →
+    Answered g s t Short b → Written g s b times₀ delays₀ times′ delays′ →
+    (a ≡ b) × (times ≡ times′) × (delays ≡ delays′)
+schedule-unique {g} {s} {times₀ = times₀} {delays₀ = delays₀} {times′ = times′} {delays′ = delays′} pa wa pb wb =
+    let same = answer-unique pa pb in
+    let w = subst (λ (x : Answer). Written g s x times₀ delays₀ times′ delays′) (sym same) wb in
+    (same, times-unique pa wa w, delays-unique pa wa w)
