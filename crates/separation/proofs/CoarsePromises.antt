@@ -30,13 +30,13 @@ module _ {g : Graph} {q s t : ℕ} where
   coarse-answer-unique pa pb =
       answers-agree (coarse-verdict-unique (pa .verdict) (pb .verdict))
       (λ e f.
-        let x = pa .found e in
-        let y = pb .found f in
-        record {
-          separations = coarse-unique (x .greatest) (y .greatest);
-          source-depths = depth-unique (x .depth-of-source) (y .depth-of-source);
-          target-depths = depth-unique (x .depth-of-target) (y .depth-of-target);
-        })
+      let x = pa .found e in
+      let y = pb .found f in
+      record {
+        separations = coarse-unique (x .greatest) (y .greatest);
+        source-depths = depth-unique (x .depth-of-source) (y .depth-of-source);
+        target-depths = depth-unique (x .depth-of-target) (y .depth-of-target);
+      })
       (pa .nothing)
       (pb .nothing)
 

@@ -56,13 +56,13 @@ pub answer-unique : {g : Graph} {s t : ℕ} {Short : Type 0} {a b : Answer} → 
 answer-unique pa pb =
     answers-agree (verdict-unique (pa .verdict) (pb .verdict))
     (λ e f.
-      let x = pa .found e in
-      let y = pb .found f in
-      record {
-        separations = separation-unique (x .greatest) (y .greatest);
-        source-depths = depth-unique (x .depth-of-source) (y .depth-of-source);
-        target-depths = depth-unique (x .depth-of-target) (y .depth-of-target);
-      })
+    let x = pa .found e in
+    let y = pb .found f in
+    record {
+      separations = separation-unique (x .greatest) (y .greatest);
+      source-depths = depth-unique (x .depth-of-source) (y .depth-of-source);
+      target-depths = depth-unique (x .depth-of-target) (y .depth-of-target);
+    })
     (pa .nothing)
     (pb .nothing)
 

@@ -2,9 +2,7 @@
 --     Never                     == no verdict: what comes after the rule that was given
 --     InputKept g s t Short     == none of the refusals 1 to 4 applies
 --     InputChecked g s t Short a == a is one of the refusals 1 to 4, or has number 0 and none of them applies
---     LinkLists keys heads nexts == heads and nexts link the rules by keys, in arrays of 1,024 and 4,096 places
 --     Arranged n ss ts …        == the rules are linked by source and by target, and the events are in an order where sources come first
---     DepthsFound g depth       == depth holds the depth of every event
 --     LatestFound g s latest    == latest holds U of every event, each small enough to subtract
 --     Computed g s t latest a   == the graph has no cycle and every event is reachable; latest holds U, and the answer its value at t
 --     Analysed g s t latest a   == a is refusal 5 or 6, or holds what was computed
@@ -12,15 +10,15 @@
 use mathlib.Core.Path.{_≡_}
 use mathlib.Core.List.{List}
 use Prim.Native.Nat.{ℕ, _<_}
-use lib.IntN.{ℤ, pos}
-use lib.ListN.{length, getD}
+use lib.IntN.{ℤ}
+use lib.ListN.{length}
 use Rattle.integers.specs.Within.{Within}
-use Rattle.graphs.specs.Graph.{Graph, rules, source, target}
+use Rattle.graphs.specs.Graph.{Graph}
 use Rattle.graphs.specs.Path.{HasCycle, Reachable, Depth}
 use Rattle.graphs.specs.Limits.{Sized}
 use Rattle.executions.specs.Steps.{U}
 use Rattle.separation.specs.declared.Answer.{Answer}
-use Rattle.separation.specs.Links.{Linked}
+use Rattle.separation.specs.Links.{LinkLists}
 use Rattle.separation.specs.Order.{Order}
 use Rattle.separation.specs.Promise.{InputVerdict, PathVerdict, Nothing, at}
 
@@ -38,20 +36,12 @@ pub record InputChecked (g : Graph) (s t : ℕ) (Short : Type 0) (a : Answer) : 
   pub nothing : (a .refusal ≡ 0 → ⊥) → Nothing a
   pub kept : a .refusal ≡ 0 → InputKept g s t Short
 
-pub record LinkLists (keys heads nexts : List ℕ) : Type 0 where
-  pub linked : Linked keys heads nexts
-  pub heads-long : length heads ≡ 1024
-  pub nexts-long : length nexts ≡ 4096
-
 pub record Arranged (n : ℕ) (ss ts heads-out nexts-out heads-in nexts-in order : List ℕ) : Type 0 where
   pub by-source : LinkLists ss heads-out nexts-out
   pub by-target : LinkLists ts heads-in nexts-in
   pub order-long : length order ≡ 1024
   pub rank : ℕ → ℕ
   pub ordered : Order n ss ts order rank
-
-pub record DepthsFound (g : Graph) (depth : List ℕ) : Type 0 where
-  pub each : (v : ℕ) → v < g .events → Depth g v (getD depth v 0)
 
 pub record LatestFound (g : Graph) (s : ℕ) (latest : List ℤ) : Type 0 where
   pub steps : U g s (at latest)

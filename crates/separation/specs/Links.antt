@@ -1,6 +1,7 @@
 -- The rules of one event, linked in two arrays. `keys` names an event for each rule: its source, or its target.
 --     Last keys v k e       == e is 1 + the last rule below k whose key is v, or 0 where there is none
 --     Linked keys heads nexts == from heads[v], by nexts, one goes through all rules with key v, the last one first
+--     LinkLists keys heads nexts == so linked, in arrays of 1,024 and 4,096 places
 -- Assumes nothing.
 use mathlib.Core.Path.{_≡_}
 use mathlib.Core.List.{List}
@@ -15,3 +16,8 @@ pub record Last (keys : List ℕ) (v k e : ℕ) : Type 0 where
 pub record Linked (keys heads nexts : List ℕ) : Type 0 where
   pub heads-last : (v : ℕ) → v < 1024 → Last keys v (length keys) (getD heads v 0)
   pub nexts-last : (i : ℕ) → i < length keys → Last keys (getD keys i 0) i (getD nexts i 0)
+
+pub record LinkLists (keys heads nexts : List ℕ) : Type 0 where
+  pub linked : Linked keys heads nexts
+  pub heads-length : length heads ≡ 1024
+  pub nexts-length : length nexts ≡ 4096

@@ -2,7 +2,6 @@
 --     Counted P k c                   == exactly c of the numbers below k satisfy P
 --     Tally ts k waiting              == waiting[v] is the number of rules below k into v
 --     RulesKept n ss ts               == the limits that the rules ss, ts of n events keep
---     RulesLinked ss heads nexts      == heads and nexts link the rules by source, and are as long as the code's arrays
 --     Waits ss ts rank head e v i     == rule i is into v and not served yet
 --     Placed n ss ts order tail rank  == the first `tail` places of order hold distinct events, event v at place rank v, sources first
 --     Progress … head e Due           == Placed, waiting counts the rules not served yet, and each due event with none is placed
@@ -14,7 +13,6 @@ use mathlib.Core.Path.{_≡_}
 use mathlib.Core.List.{List}
 use Prim.Native.Nat.{ℕ, suc, _+_, _*_, _<_, _≤_}
 use lib.ListN.{length, getD}
-use Rattle.separation.specs.Links.{Linked}
 use Rattle.separation.specs.Passes.{EndsBelow}
 
 pub data Counted (P : ℕ → Type 0) : ℕ → ℕ → Type 0 where
@@ -32,11 +30,6 @@ pub record RulesKept (n : ℕ) (ss ts : List ℕ) : Type 0 where
   pub targets-match : length ts ≡ length ss
   pub sources-below : EndsBelow n ss
   pub targets-below : EndsBelow n ts
-
-pub record RulesLinked (ss heads nexts : List ℕ) : Type 0 where
-  pub linked : Linked ss heads nexts
-  pub heads-length : length heads ≡ 1024
-  pub nexts-length : length nexts ≡ 4096
 
 pub record Waits (ss ts : List ℕ) (rank : ℕ → ℕ) (head e v i : ℕ) : Type 0 where
   pub into : getD ts i 0 ≡ v

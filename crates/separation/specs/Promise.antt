@@ -7,8 +7,8 @@
 --     Found g s t a, Nothing a  == the values of an answer that is none, and of one that is a refusal
 --     Answered g s t Short a    == a is the answer: the verdict's number and place, and the values where nothing is refused
 --     at xs v                   == what stands at place v of a list of times or delays
---     Written g s a old new     == what the two lent lists hold, by the answer
--- Assumes nothing.
+--     Written g s a times₀ delays₀ times delays == what the two lent lists, which held times₀ and delays₀, hold after
+-- A reader of the promises needs this file, the files of graphs/specs and executions/specs that it names, and Coarse.antt. Assumes nothing.
 use mathlib.Core.Path.{_≡_}
 use mathlib.Core.Logic.{_⊎_}
 use mathlib.Core.List.{List}

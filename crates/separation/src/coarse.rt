@@ -27,12 +27,29 @@ pub(crate) fn step_outside(q: usize) -> bool
 }
 
 // The analysis of the rules' front parts of `low` and `high`.
-pub(crate) fn analyse_rounded(n: usize, sources: &[usize], targets: &[usize], low: &[i64], high: &[i64], s: usize, t: usize) -> Answer
+pub(crate) fn analyse_rounded(
+    n: usize,
+    sources: &[usize],
+    targets: &[usize],
+    low: &[i64],
+    high: &[i64],
+    s: usize,
+    t: usize,
+) -> Answer
     requires { ⌜ (length (now sources) ≤ length (now low)) × (length (now sources) ≤ length (now high)) × (s < n) × (t < n) ⌝ }
     requires { ⌜ Sized 1001000 (graphOf n (now sources) (now targets) (take (length (now sources)) (now low)) (take (length (now sources)) (now high))) ⌝ }
     ensures { λ r. ⌜ ((latest : List ℤ) × Analysed (graphOf n (now (sources .entry)) (now (targets .entry)) (take (length (now (sources .entry))) (now (low .entry))) (take (length (now (sources .entry))) (now (high .entry)))) s t latest r) ⌝ }
 {
     let rules = sources.len();
     let mut latest = [0i64; 1024];
-    analyse(n, sources, targets, &low[..rules], &high[..rules], s, t, &mut latest)
+    analyse(
+        n,
+        sources,
+        targets,
+        &low[..rules],
+        &high[..rules],
+        s,
+        t,
+        &mut latest,
+    )
 }

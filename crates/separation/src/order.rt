@@ -3,10 +3,10 @@
 ghost use mathlib.Core.Path.{_≡_};
 ghost use Prim.Native.Nat.{ℕ, _+_, _<_, _≤_};
 ghost use lib.ListN.{length, replicate};
-ghost use Rattle.separation.specs.Links.{Linked};
+ghost use Rattle.separation.specs.Links.{Linked, LinkLists};
 ghost use Rattle.separation.specs.Order.{Ordered};
 ghost use Rattle.separation.specs.Passes.{EndsBelow};
-ghost use Rattle.separation.specs.Placing.{Tally, RulesKept, RulesLinked, Turn};
+ghost use Rattle.separation.specs.Placing.{Tally, RulesKept, Turn};
 
 // Counts the rules into each event.
 fn count_rules(targets: &[usize], waiting: &mut [usize])
@@ -61,7 +61,7 @@ fn serve(
     head: usize,
 ) -> usize
     requires { ⌜ RulesKept n (now sources) (now targets) ⌝ }
-    requires { ⌜ RulesLinked (now sources) (now heads) (now nexts) ⌝ }
+    requires { ⌜ LinkLists (now sources) (now heads) (now nexts) ⌝ }
     requires { ⌜ Turn n (now sources) (now targets) (now waiting) (now order) tail head ⌝ }
     requires { ⌜ head < tail ⌝ }
     ensures { λ r. ⌜ Turn n (now (sources .entry)) (now (targets .entry)) (now (waiting .exit)) (now (order .exit)) r (head + 1) ⌝ }
@@ -95,7 +95,7 @@ fn serve_all(
     first: usize,
 ) -> usize
     requires { ⌜ RulesKept n (now sources) (now targets) ⌝ }
-    requires { ⌜ RulesLinked (now sources) (now heads) (now nexts) ⌝ }
+    requires { ⌜ LinkLists (now sources) (now heads) (now nexts) ⌝ }
     requires { ⌜ Turn n (now sources) (now targets) (now waiting) (now order) first 0 ⌝ }
     ensures { λ r. ⌜ Turn n (now (sources .entry)) (now (targets .entry)) (now (waiting .exit)) (now (order .exit)) r r ⌝ }
 {

@@ -86,11 +86,12 @@ round-delays-requires : tie.Need-round-delays-requires
 round-delays-requires c κs =
     let sized = kept (c .before .before .before .before) .sized in
     let counts = sized .counts in
-    let step = c .before .before .before .step-outside .ensures .1 (c .before .before .if2 .left) in
-    ((step .0, step .1, counts .mosts-match ∙ sym (counts .leasts-match), subst (λ (k : ℕ). k ≤ 4096) (sym (counts .leasts-match)) (counts .few-rules), refl {a = 4096}, refl {a = 4096}),
+    let step = c .before .before .before .step-outside .ensures .1 (c .before .before .if2 .left) in (
+      (step .0, step .1, counts .mosts-match ∙ sym (counts .leasts-match), subst (λ (k : ℕ). k ≤ 4096) (sym (counts .leasts-match)) (counts .few-rules), refl {a = 4096}, refl {a = 4096}),
       λ i l.
-      let delays = sized .delays i (subst (λ (k : ℕ). i < k) (counts .leasts-match) l) in
-      (delays .least-within, delays .most-within))
+          let delays = sized .delays i (subst (λ (k : ℕ). i < k) (counts .leasts-match) l) in
+          (delays .least-within, delays .most-within),
+    )
 
 slice-aggregate-analyse-rounded : tie.Need-slice-aggregate-analyse-rounded
 slice-aggregate-analyse-rounded c = search needs
@@ -100,9 +101,10 @@ slice-aggregate-analyse-rounded-2 c = search needs
 
 analyse-rounded-requires : tie.Need-analyse-rounded-requires
 analyse-rounded-requires c κs =
-    let at = c .before .before .before .before in
-    ((low-long at, high-long at, input at .source-known, input at .target-known),
-      sized-up (omega arith) (rounded-sized (input at .sized) (step at .1) (rounded at)))
+    let at = c .before .before .before .before in (
+      (low-long at, high-long at, input at .source-known, input at .target-known),
+      sized-up (omega arith) (rounded-sized (input at .sized) (step at .1) (rounded at)),
+    )
 
 returns-3 : tie.Need-returns-3
 returns-3 c =

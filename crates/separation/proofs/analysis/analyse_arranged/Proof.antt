@@ -73,7 +73,7 @@ find-depths-requires c κs =
       (
         (sources-below (start .pre .0), targets-below (start .pre .0)),
         (
-          (arranged .by-target .linked, arranged .by-target .heads-long, arranged .by-target .nexts-long),
+          (arranged .by-target .linked, arranged .by-target .heads-length, arranged .by-target .nexts-length),
           (((arranged .rank, arranged .ordered), arranged .order-long), (refl {a = 1024}, refl {a = 1024})),
         ),
       ),

@@ -61,9 +61,9 @@ returns c =
       λ e.
           record {
             by-source =
-                record { linked = out .ensures; heads-long = out .kept .1 .0 ∙ ap length (start .pre .1 .1 .0 .0); nexts-long = out .kept .1 .1 .0 ∙ start .pre .1 .1 .0 .1 };
+                record { linked = out .ensures; heads-length = out .kept .1 .0 ∙ ap length (start .pre .1 .1 .0 .0); nexts-length = out .kept .1 .1 .0 ∙ start .pre .1 .1 .0 .1 };
             by-target =
-                record { linked = into .ensures; heads-long = into .kept .1 .0 ∙ ap length (start .pre .1 .1 .1 .0); nexts-long = into .kept .1 .1 .0 ∙ start .pre .1 .1 .1 .1 };
+                record { linked = into .ensures; heads-length = into .kept .1 .0 ∙ ap length (start .pre .1 .1 .1 .0); nexts-length = into .kept .1 .1 .0 ∙ start .pre .1 .1 .1 .1 };
             order-long = order .kept .1 .1 .1 .1 .1 .0 ∙ start .pre .1 .1 .1 .2;
             rank = order .ensures .ordered e .0;
             ordered = order .ensures .ordered e .1;

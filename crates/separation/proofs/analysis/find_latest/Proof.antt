@@ -20,7 +20,7 @@ find-m-requires c κs =
     let arranged = start .pre .1 .0 in (
       (start .pre .0 .sized, start .pre .1 .1 .0),
       (
-        (arranged .by-source .linked, arranged .by-source .heads-long, arranged .by-source .nexts-long),
+        (arranged .by-source .linked, arranged .by-source .heads-length, arranged .by-source .nexts-length),
         (((arranged .rank, arranged .ordered), arranged .order-long), (refl {a = 1024}, refl {a = 1024})),
       ),
     )
@@ -38,7 +38,7 @@ find-u-requires c κs =
     let found = c .before .before .before .before .before .find-m in (
       (start .pre .0, start .pre .1 .1 .0),
       (
-        (arranged .by-target .linked, arranged .by-target .heads-long, arranged .by-target .nexts-long),
+        (arranged .by-target .linked, arranged .by-target .heads-length, arranged .by-target .nexts-length),
         (((arranged .rank, arranged .ordered), arranged .order-long), ((found .kept .1 .1 .1 .1 .1 .1 .1 .1 .1 .0, found .kept .1 .1 .1 .1 .1 .1 .1 .1 .1 .1 .0, found .ensures), start .pre .1 .1 .1)),
       ),
     )

@@ -2,7 +2,8 @@
 use mathlib.Core.Path.{refl}
 use native.Mathlib.Omega.{arith}
 use borrow.Author.Needs.{needs}
-use Rattle.separation.specs.Placing.{RulesKept, RulesLinked}
+use Rattle.separation.specs.Links.{LinkLists}
+use Rattle.separation.specs.Placing.{RulesKept}
 use Rattle.separation.proofs.order.order_events.Proof.Laws.{below-wider, turn-ordered}
 use Rattle.separation.proofs.order.order_events.Statement.{statement}
 use Rattle.separation.proofs.order.order_events.Tie as tie
@@ -11,7 +12,7 @@ mod Laws
 kept : (s : tie.Start) → RulesKept (s .args .n) (s .args .sources .now) (s .args .targets .now)
 kept s = record { few-events = s .pre .0 .1; few-rules = s .pre .0 .2; targets-match = s .pre .0 .3; sources-below = s .pre .1 .0 .0; targets-below = s .pre .1 .0 .1 }
 
-links : (s : tie.Start) → RulesLinked (s .args .sources .now) (s .args .heads .now) (s .args .nexts .now)
+links : (s : tie.Start) → LinkLists (s .args .sources .now) (s .args .heads .now) (s .args .nexts .now)
 links s = record { linked = s .pre .1 .1 .0 .0; heads-length = s .pre .1 .1 .0 .1; nexts-length = s .pre .1 .1 .0 .2 }
 
 slice-aggregate-count-rules : tie.Need-slice-aggregate-count-rules

@@ -11,8 +11,8 @@ use Prim.Native.Nat.{ℕ, suc, _+_, _-_, _<_, _≤_}
 use native.Mathlib.Omega.{arith}
 use lib.ListN.{length, getD, set}
 use lib.Seq.{getD-set-same, getD-set-other}
-use Rattle.separation.specs.Links.{Last}
-use Rattle.separation.specs.Placing.{RulesKept, RulesLinked, Progress, Turn}
+use Rattle.separation.specs.Links.{Last, LinkLists}
+use Rattle.separation.specs.Placing.{RulesKept, Progress, Turn}
 use Rattle.separation.proofs.Placement.{Joins, room-left, progress-place, progress-keep, walk-begins, walk-waits, walk-lowers, walk-finishes}
 
 pub record Walking (n : ℕ) (ss ts : List ℕ) (event : ℕ) (waiting order : List ℕ) (tail head link : ℕ) : Type 0 where
@@ -31,7 +31,7 @@ pub record Serving (n : ℕ) (ss ts nexts : List ℕ) (event : ℕ) (waiting ord
   pub keeps : (getD waiting x 0 - 1 ≡ 0 → ⊥) → Walking n ss ts event (set waiting x (getD waiting x 0 - 1)) order tail head (getD nexts i 0)
   pub places : getD waiting x 0 - 1 ≡ 0 → Walking n ss ts event (set waiting x (getD waiting x 0 - 1)) (set order tail x) (tail + 1) head (getD nexts i 0)
 
-module _ (n : ℕ) (ss ts heads nexts : List ℕ) (kept : RulesKept n ss ts) (links : RulesLinked ss heads nexts) where
+module _ (n : ℕ) (ss ts heads nexts : List ℕ) (kept : RulesKept n ss ts) (links : LinkLists ss heads nexts) where
   pub walking-begins : (waiting order : List ℕ) (tail head : ℕ) → Turn n ss ts waiting order tail head → head < tail → Walking n ss ts (getD order head 0) waiting order tail head (getD heads (getD order head 0) 0)
   walking-begins waiting order tail head turn busy =
       let last : Last ss (getD order head 0) (length ss) (getD heads (getD order head 0) 0) = links .linked .heads-last (getD order head 0) (omega (arith, turn .placed .order-below head busy, kept .few-events)) in
