@@ -4,19 +4,24 @@
 --     answered-exactly   a refusal is given exactly when its rule says: whatever number and place the verdict allows, the answer has them
 --     times-unique       what two runs leave in the time list
 --     delays-unique      and in the delay list
+--     exact-within, least-of-exchanged, answers-near    the sizes, the least value, and demand 3's first sentence, of answers
 --     schedule-unique    all of it: two results of `schedule` are equal
 -- Assumes nothing.
 use mathlib.Core.Path.{_≡_, refl, sym, subst, _∙_}
 use mathlib.Core.List.{List}
-use Prim.Native.Nat.{ℕ, _+_, _-_, _<_, _≤_}
+use Prim.Native.Nat.{ℕ, _+_, _-_, _*_, _<_, _≤_}
 use native.Mathlib.Decide.{ℕ-discrete, decLt}
 use native.Mathlib.Omega.{arith}
-use lib.IntN.{ℤ, pos}
+use lib.IntN.{ℤ, pos, negℤ}
 use lib.ListN.{length, getD, drop}
 use lib.Seq.{ext-getD, getD-drop}
 use Rattle.graphs.specs.Graph.{Graph, rules}
 use Rattle.graphs.proofs.Unique.{depth-unique}
-use Rattle.executions.proofs.Unique.{separation-unique, schedule-times-unique, schedule-delays-unique}
+use Rattle.integers.specs.Within.{Within}
+use Rattle.executions.specs.Separation.{LeastSeparation, SameRules, Near, DelaysNear}
+use Rattle.executions.proofs.Nearness.{maxima-near}
+use Rattle.executions.proofs.Sizes.{exact-size}
+use Rattle.executions.proofs.Unique.{separation-unique, least-is-exchanged, schedule-times-unique, schedule-delays-unique}
 use Rattle.separation.specs.declared.Answer.{Answer}
 use Rattle.separation.specs.Promise.{Verdict, Answered, Nothing, Written, at}
 use Rattle.separation.proofs.Verdicts.{verdict-unique}
@@ -107,3 +112,23 @@ schedule-unique {g} {s} {times₀ = times₀} {delays₀ = delays₀} {times′ 
     let same = answer-unique pa pb in
     let w = subst (λ (x : Answer). Written g s x times₀ delays₀ times′ delays′) (sym same) wb in
     (same, times-unique pa wa w, delays-unique pa wa w)
+
+-- ---- what the promises say of answers
+
+module _ {g : Graph} {s t : ℕ} {Short : Type 0} {a : Answer} (pa : Answered g s t Short a) (accepted : a .refusal ≡ 0) where
+  -- "An exact answer lies between −2,046,000,000 and 2,046,000,000"
+  pub exact-within : Within 2046000000 (a .separation)
+  exact-within =
+      let f = pa .found accepted in
+      exact-size (f .graph) (f .source-known) (f .target-known) (f .greatest)
+
+  -- "The least value is minus the answer for s and t exchanged"
+  pub least-of-exchanged : LeastSeparation g t s (negℤ (a .separation))
+  least-of-exchanged = least-is-exchanged (pa .found accepted .greatest)
+
+  -- demand 3, first sentence, of two answers
+  pub answers-near : {h : Graph} {Short′ : Type 0} {b : Answer} → Answered h s t Short′ b → b .refusal ≡ 0 → SameRules g h → (e : ℕ) → DelaysNear e g h → Near (e * (a .«source_depth» + a .«target_depth»)) (a .separation) (b .separation)
+  answers-near pb accepted′ same e near =
+      let f = pa .found accepted in
+      let h = pb .found accepted′ in
+      maxima-near (f .graph) (h .graph) same e near (f .source-known) (f .target-known) (f .depth-of-source) (f .depth-of-target) (f .greatest) (h .greatest)
