@@ -1,0 +1,2 @@
+-- What the functions of the program say to each other.
+pub mod Shapes
