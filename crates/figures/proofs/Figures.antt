@@ -1,15 +1,16 @@
 -- Document 01's figures hold: one claim for all of them.
 --     figures-hold      every figure of specs/Figures.antt's list holds
 -- Each figure has its certificate: for every event its depth, its m where it has one, and its U. The tests of Certificate.antt compute that the
--- certificate is right, and `passed` says that the figure then holds. Assumes nothing.
+-- certificate is right, and `passed` says that the figure then holds. An unfolding needs no certificate: its test reads none. Assumes nothing.
 use mathlib.Core.List.{List, [], _∷_}
 use Prim.Native.Nat.{ℕ}
 use lib.IntN.{ℤ, pos, negℤ}
-use Rattle.figures.specs.Figures.{below, P1, P2, P3, P4, P5, P6, P7, P8, P9, P10, Holds, figures, AllHold}
+use Rattle.figures.specs.Figures.{below, P1, P2, P3, P4, P5, P6, P7, P8, P9, P10, P11, Holds, figures, AllHold}
 use Rattle.figures.specs.Figures.Figure.{separation-is, coarse-is, limit-met}
 use Rattle.figures.proofs.Certificate.{Certificate, MaybeM}
 use Rattle.figures.proofs.Certificate.MaybeM.{absent, m-is}
-use Rattle.figures.proofs.Passed.{passed}
+use Rattle.figures.proofs.Passed.{separation-passed, passed}
+use Rattle.figures.proofs.Unfoldings.{unfolds-to}
 
 abbrev certificate : List ℕ → List MaybeM → List ℤ → Certificate
 certificate depths ms us = record { depths = depths; ms = ms; us = us }
@@ -62,6 +63,29 @@ P9-holds =
 P10-holds : Holds P10
 P10-holds = passed (certificate (0 ∷ 1 ∷ 2 ∷ 2 ∷ []) (m 0 ∷ m 0 ∷ m 0 ∷ absent ∷ []) (pos 0 ∷ pos 0 ∷ pos 0 ∷ pos 8 ∷ [])) P10 tt
 
+-- fig 1 unfolded has a certificate against each of 1, 3 and 5, the three occurrences of a; its depths are one chain, 0 to 6
+abbrev fig1-certificate : List MaybeM → List ℤ → Certificate
+fig1-certificate = certificate (0 ∷ 1 ∷ 2 ∷ 3 ∷ 4 ∷ 5 ∷ 6 ∷ [])
+
+abbrev against-1 : Certificate
+against-1 =
+    fig1-certificate (m 0 ∷ m 0 ∷ absent ∷ absent ∷ absent ∷ absent ∷ absent ∷ [])
+    (pos 0 ∷ pos 0 ∷ pos 1 ∷ pos 10 ∷ pos 21 ∷ pos 22 ∷ pos 41 ∷ [])
+
+abbrev against-3 : Certificate
+against-3 =
+    fig1-certificate (m- 4 ∷ m- 4 ∷ m- 1 ∷ m 0 ∷ absent ∷ absent ∷ absent ∷ [])
+    (negℤ (pos 4) ∷ negℤ (pos 4) ∷ negℤ (pos 3) ∷ pos 0 ∷ pos 17 ∷ pos 18 ∷ pos 37 ∷ [])
+
+abbrev against-5 : Certificate
+against-5 =
+    fig1-certificate (m- 8 ∷ m- 8 ∷ m- 6 ∷ m- 4 ∷ m- 1 ∷ m 0 ∷ absent ∷ [])
+    (negℤ (pos 8) ∷ negℤ (pos 8) ∷ negℤ (pos 7) ∷ negℤ (pos 4) ∷ negℤ (pos 1) ∷ pos 0 ∷ pos 19 ∷ [])
+
+P11-holds : Holds P11
+P11-holds =
+    (unfolds-to _ _ _ tt, (separation-passed against-1 _ _ _ _ tt, (separation-passed against-3 _ _ _ _ tt, separation-passed against-5 _ _ _ _ tt)))
+
 pub figures-hold : AllHold figures
 figures-hold =
-    (P1-holds, (P2-holds, (P3-holds, (P4-holds, (P5-holds, (P6-holds, (P7-holds, (P8-holds, (P9-holds, (P10-holds, tt))))))))))
+    (P1-holds, (P2-holds, (P3-holds, (P4-holds, (P5-holds, (P6-holds, (P7-holds, (P8-holds, (P9-holds, (P10-holds, (P11-holds, tt)))))))))))

@@ -3,5 +3,6 @@ pub mod Tests
 pub mod Certificate
 pub mod Checked
 pub mod Roundings
+pub mod Unfoldings
 pub mod Passed
 pub mod Figures

@@ -2,7 +2,8 @@
 --     graphPasses c g      the graph keeps 01's limits, and the certificate's depths are its depths
 --     stepsPass c g s      the certificate's m and U are those against s
 --     passes c f           the figure f is as the certificate has it
---     passed               then it holds: the one law that every figure is proved by
+--     separation-passed    a separation whose certificate passes is as the figure has it
+--     passed               then the figure holds, whatever it says
 -- Assumes nothing.
 use mathlib.Core.Path.{subst}
 use mathlib.Core.Bool.{Bool, _&&_}
@@ -17,10 +18,11 @@ use Rattle.executions.specs.Separation.{Separation}
 use Rattle.executions.specs.Steps.{U}
 use Rattle.executions.proofs.Schedules.{schedule-of, separation-of}
 use Rattle.figures.specs.Figures.{Figure, SeparationIs, DepthsAre, Holds}
-use Rattle.figures.specs.Figures.Figure.{separation-is, depths-are, schedule-is, coarse-is, limit-met, both}
+use Rattle.figures.specs.Figures.Figure.{separation-is, depths-are, schedule-is, coarse-is, limit-met, unfolding-is, both}
 use Rattle.figures.proofs.Tests.{both-pass, eqZ, eqZ-passes}
 use Rattle.figures.proofs.Certificate.{Certificate, depthAt, mAt, uAt, keepsLimits, limits-kept, keepsDepths, Depths, depths-kept, keepsM, ms-kept, keepsU, us-kept, keepsSchedule, times-kept, delays-lesser}
 use Rattle.figures.proofs.Roundings.{roundsTo, rounds-to}
+use Rattle.figures.proofs.Unfoldings.{unfoldsTo, unfolds-to}
 use Rattle.figures.proofs.Checked.{checked-graph, checked-depth, checked-u}
 
 abbrev pub graphPasses : Certificate → Graph → Bool
@@ -46,6 +48,7 @@ passes c (schedule-is g s times delays) =
 passes c (coarse-is g q lows highs s t x) =
     graphPasses c g && (roundsTo q g lows highs && separationPasses c (graphOf (g .events) (g .sources) (g .targets) lows highs) s t x)
 passes c (limit-met g q s t a d x y) = depthsPass c g s t a d && eqZ y (x +ℤ pos ((q - 1) * (a + d)))
+passes c (unfolding-is g K graph) = unfoldsTo g K graph
 passes c (both f h) = passes c f && passes c h
 
 module _ (c : Certificate) (g : Graph) (t : T (graphPasses c g)) where
@@ -73,7 +76,7 @@ module _ (c : Certificate) (g : Graph) (t : T (graphPasses c g)) where
         let (m, u) = both-pass (keepsM g s (mAt c)) _ both-steps in
         checked-u sized depths (ms-kept g s (mAt c) m) (us-kept g (mAt c) (uAt c) u)
 
-separation-passed : (c : Certificate) (g : Graph) (s t : ℕ) (x : ℤ) → T (separationPasses c g s t x) → SeparationIs g s t x
+pub separation-passed : (c : Certificate) (g : Graph) (s t : ℕ) (x : ℤ) → T (separationPasses c g s t x) → SeparationIs g s t x
 separation-passed c g s t x p =
     let (tg, rest) = both-pass (graphPasses c g) _ p in
     let (ts, tx) = both-pass (stepsPass c g s) _ rest in
@@ -125,6 +128,7 @@ passed c (coarse-is g q lows highs s t x) p =
 passed c (limit-met g q s t a d x y) p =
     let (td, ty) = both-pass (depthsPass c g s t a d) _ p in
     record { depths = depths-passed c g s t a d td; limit = eqZ-passes y (x +ℤ pos ((q - 1) * (a + d))) ty }
+passed c (unfolding-is g K graph) p = unfolds-to g K graph p
 passed c (both f h) p =
     let (first, second) = both-pass (passes c f) _ p in
     (passed c f first, passed c h second)

@@ -1,14 +1,16 @@
 -- The figures to check by, those that 01 marks P, as statements about the definitions. Document 01, section "Figures to check by".
---     one, row, fork, pair, below == the graphs that the figures speak of
+--     one, row, fork, pair, below == the event graphs that the figures speak of
+--     fig1, fig1-unfolded         == the process graph of P11, and its unfolding, written out
 --     Figure                      == what one figure says
 --       separation-is g s t x     == g is an event graph with the events s and t, and x is the separation of t from s
 --       depths-are g s t a d      == the depth of s is a, and that of t is d
 --       schedule-is g s times delays == the two lists are the whole latest schedule against s, and no longer
 --       coarse-is g q lows highs s t x == rounded outward to steps of q, the delays of g are lows and highs, and the coarse answer is x
 --       limit-met g q s t a d x y == y, the coarse answer, is (q − 1) × (a + d) above x, the exact one; a and d are the depths of s and t
+--       unfolding-is g K graph    == the graph is the process graph g, unfolded K times
 --       both f h                  == f, and h
---     Holds f                     == what f says, in terms of the crates graphs, executions and rounding
---     P1 … P10                    == the figures
+--     Holds f                     == what f says, in terms of the crates graphs, executions, rounding and processes
+--     P1 … P11                    == the figures
 --     figures                     == all of them, in a single list
 --     AllHold fs                  == every figure of the list holds: the one claim, proved in proofs/Figures.antt for `figures`
 -- Assumes nothing.
@@ -23,6 +25,8 @@ use Rattle.graphs.specs.Limits.{EventGraph}
 use Rattle.executions.specs.Separation.{Separation}
 use Rattle.executions.specs.Schedule.{Schedule}
 use Rattle.rounding.specs.Rounding.{Rounded, CoarseSeparation}
+use Rattle.processes.specs.Process.{ProcessGraph, processOf}
+use Rattle.processes.specs.Unfolding.{Unfolds}
 
 -- ---- the graphs
 
@@ -46,6 +50,20 @@ pair = graphOf 2 (0 ∷ 0 ∷ []) (1 ∷ 1 ∷ []) (pos 1 ∷ pos 0 ∷ []) (pos
 abbrev pub below : Graph
 below = graphOf 2 (0 ∷ []) (1 ∷ []) (negℤ (pos 3) ∷ []) (negℤ (pos 1) ∷ [])
 
+-- "events a = 0 and b = 1, templates a→a [4, 10] mark 1, a→b [1, 1] mark 0, b→a [1, 1] mark 1, b→b [5, 20] mark 1"
+abbrev pub fig1 : ProcessGraph
+fig1 =
+    processOf 2 (0 ∷ 0 ∷ 1 ∷ 1 ∷ []) (0 ∷ 1 ∷ 0 ∷ 1 ∷ []) (pos 4 ∷ pos 1 ∷ pos 1 ∷ pos 5 ∷ []) (pos 10 ∷ pos 1 ∷ pos 1 ∷ pos 20 ∷ [])
+    (1 ∷ 0 ∷ 1 ∷ 1 ∷ [])
+
+-- three occurrences of each, "number 1 + k × p + i": a is 1, 3, 5 and b is 2, 4, 6. Four rules for k = 0, of which three are start rules, "from the
+-- root to occurrence 0 of the target, with delay [0, 0]"; then four for k = 1, and four for k = 2
+abbrev pub fig1-unfolded : Graph
+fig1-unfolded =
+    graphOf 7 (0 ∷ 1 ∷ 0 ∷ 0 ∷ 1 ∷ 3 ∷ 2 ∷ 2 ∷ 3 ∷ 5 ∷ 4 ∷ 4 ∷ []) (1 ∷ 2 ∷ 1 ∷ 2 ∷ 3 ∷ 4 ∷ 3 ∷ 4 ∷ 5 ∷ 6 ∷ 5 ∷ 6 ∷ [])
+    (pos 0 ∷ pos 1 ∷ pos 0 ∷ pos 0 ∷ pos 4 ∷ pos 1 ∷ pos 1 ∷ pos 5 ∷ pos 4 ∷ pos 1 ∷ pos 1 ∷ pos 5 ∷ [])
+    (pos 0 ∷ pos 1 ∷ pos 0 ∷ pos 0 ∷ pos 10 ∷ pos 1 ∷ pos 1 ∷ pos 20 ∷ pos 10 ∷ pos 1 ∷ pos 1 ∷ pos 20 ∷ [])
+
 -- ---- what a figure says
 
 pub data Figure : Type 0 where
@@ -54,6 +72,7 @@ pub data Figure : Type 0 where
   schedule-is : Graph → ℕ → List ℤ → List ℤ → Figure
   coarse-is : Graph → ℕ → List ℤ → List ℤ → ℕ → ℕ → ℤ → Figure
   limit-met : Graph → ℕ → ℕ → ℕ → ℕ → ℕ → ℤ → ℤ → Figure
+  unfolding-is : ProcessGraph → ℕ → Graph → Figure
   both : Figure → Figure → Figure
 
 -- the graph keeps 01's limits, s and t exist, and "the answer is the greatest t(t) − t(s) over all executions"
@@ -93,6 +112,8 @@ Holds (depths-are g s t a d) = DepthsAre g s t a d
 Holds (schedule-is g s times delays) = ScheduleIs g s times delays
 Holds (coarse-is g q lows highs s t x) = CoarseIs g q lows highs s t x
 Holds (limit-met g q s t a d x y) = LimitMet g q s t a d x y
+-- "Unfolding it K times … gives an event graph"
+Holds (unfolding-is g K graph) = Unfolds g K graph
 Holds (both f h) = Holds f × Holds h
 
 -- ---- the figures
@@ -143,9 +164,15 @@ P9 =
 abbrev pub P10 : Figure
 P10 = coarse-is row 4 (pos 0 ∷ pos 0 ∷ pos 0 ∷ []) (pos 100 ∷ pos 4 ∷ pos 8 ∷ []) 2 3 (pos 8)
 
--- "P1 to P11 are proved about the definitions, gathered as a single list under one claim"; here P1 to P10
+-- "P11: fig 1, b against a at the same occurrence (s is a, t is b): 1, 17, 19 at occurrences 0, 1, 2."
+abbrev pub P11 : Figure
+P11 =
+    both (unfolding-is fig1 3 fig1-unfolded)
+    (both (separation-is fig1-unfolded 1 2 (pos 1)) (both (separation-is fig1-unfolded 3 4 (pos 17)) (separation-is fig1-unfolded 5 6 (pos 19))))
+
+-- "P1 to P11 are proved about the definitions, gathered as a single list under one claim": with P11 the list stands whole
 abbrev pub figures : List Figure
-figures = P1 ∷ P2 ∷ P3 ∷ P4 ∷ P5 ∷ P6 ∷ P7 ∷ P8 ∷ P9 ∷ P10 ∷ []
+figures = P1 ∷ P2 ∷ P3 ∷ P4 ∷ P5 ∷ P6 ∷ P7 ∷ P8 ∷ P9 ∷ P10 ∷ P11 ∷ []
 
 abbrev pub AllHold : List Figure → Type 0
 AllHold [] = Unit {0}

@@ -1,2 +1,2 @@
--- Document 01's proved figures, as statements about graphs and executions.
+-- Document 01's proved figures, as statements about graphs, executions and process graphs.
 pub mod Figures

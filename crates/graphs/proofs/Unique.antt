@@ -81,7 +81,7 @@ accepted-unique accepted accepted = (refl, refl)
 
 -- ---- refusal 1
 
-stable : (m n : ℕ) → ((m ≡ n → ⊥) → ⊥) → m ≡ n
+pub stable : (m n : ℕ) → ((m ≡ n → ⊥) → ⊥) → m ≡ n
 stable m n h = by (ℕ-discrete m n)
   where
     by : Dec (m ≡ n) → m ≡ n

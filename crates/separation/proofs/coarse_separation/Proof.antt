@@ -16,13 +16,6 @@ use Rattle.separation.proofs.Arranging.{sized-up}
 use Rattle.separation.proofs.Coarsely.{rounded-lists, coarse-refused, coarse-step-refused, coarse-analysed}
 use Rattle.separation.proofs.coarse_separation.Statement.{statement}
 use Rattle.separation.proofs.coarse_separation.Tie as tie
-use Rattle.separation.proofs.coarse_separation.Reads as reads
-use Rattle.separation.proofs.coarse_separation.Lts as lts
-use Rattle.separation.proofs.answers.refused.Reads as refused-reads
-use Rattle.separation.proofs.coarse.analyse_rounded.Reads as analyse-rounded-reads
-use Rattle.separation.proofs.coarse.step_outside.Reads as step-outside-reads
-use Rattle.separation.proofs.input.check_input.Reads as check-input-reads
-use Rattle.separation.proofs.rounded.round_delays.Reads as round-delays-reads
 
 abbrev graph : tie.Start → Graph
 graph a = graphOf (a .args .n) (now (a .args .sources)) (now (a .args .targets)) (now (a .args .leasts)) (now (a .args .mosts))

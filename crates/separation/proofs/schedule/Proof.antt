@@ -16,13 +16,6 @@ use Rattle.separation.proofs.Filling.{rule-timed}
 use Rattle.separation.proofs.Exact.{first-long, second-long, answered-short, answered-refused, answered-analysed, lists-refused, lists-written}
 use Rattle.separation.proofs.schedule.Statement.{statement}
 use Rattle.separation.proofs.schedule.Tie as tie
-use Rattle.separation.proofs.schedule.Reads as reads
-use Rattle.separation.proofs.schedule.Lts as lts
-use Rattle.separation.proofs.analysis.analyse.Reads as analyse-reads
-use Rattle.separation.proofs.input.check_input.Reads as check-input-reads
-use Rattle.separation.proofs.lists.too_short.Reads as too-short-reads
-use Rattle.separation.proofs.lists.write_delays.Reads as write-delays-reads
-use Rattle.separation.proofs.lists.write_times.Reads as write-times-reads
 
 abbrev graph : tie.Start → Graph
 graph a = graphOf (a .args .n) (now (a .args .sources)) (now (a .args .targets)) (now (a .args .leasts)) (now (a .args .mosts))

@@ -7,10 +7,6 @@ use Rattle.separation.proofs.Arranging.{sized-up}
 use Rattle.separation.proofs.Exact.{answered-short, answered-refused, answered-analysed}
 use Rattle.separation.proofs.separation.Statement.{statement}
 use Rattle.separation.proofs.separation.Tie as tie
-use Rattle.separation.proofs.separation.Reads as reads
-use Rattle.separation.proofs.separation.Lts as lts
-use Rattle.separation.proofs.analysis.analyse.Reads as analyse-reads
-use Rattle.separation.proofs.input.check_input.Reads as check-input-reads
 
 -- no list is lent, so none is too short
 not-short : _≡_ false true → ⊥

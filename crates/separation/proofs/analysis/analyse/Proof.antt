@@ -8,11 +8,6 @@ use Rattle.separation.proofs.Arranging.{sources-below, targets-below, p
 use Rattle.separation.proofs.Verdicts.{path-5}
 use Rattle.separation.proofs.analysis.analyse.Statement.{statement}
 use Rattle.separation.proofs.analysis.analyse.Tie as tie
-use Rattle.separation.proofs.analysis.analyse.Reads as reads
-use Rattle.separation.proofs.analysis.analyse.Lts as lts
-use Rattle.separation.proofs.analysis.analyse_arranged.Reads as analyse-arranged-reads
-use Rattle.separation.proofs.analysis.arrange.Reads as arrange-reads
-use Rattle.separation.proofs.answers.refused.Reads as refused-reads
 
 slice-aggregate-arrange : tie.Need-slice-aggregate-arrange
 slice-aggregate-arrange c = search needs

@@ -17,12 +17,6 @@ use Rattle.separation.proofs.Verdicts.{path-6}
 use Rattle.separation.proofs.Searches.{all-good, lowest-not-reached, all-reached}
 use Rattle.separation.proofs.analysis.analyse_arranged.Statement.{statement}
 use Rattle.separation.proofs.analysis.analyse_arranged.Tie as tie
-use Rattle.separation.proofs.analysis.analyse_arranged.Reads as reads
-use Rattle.separation.proofs.analysis.analyse_arranged.Lts as lts
-use Rattle.separation.proofs.analysis.find_latest.Reads as find-latest-reads
-use Rattle.separation.proofs.answers.refused.Reads as refused-reads
-use Rattle.separation.proofs.checks.lowest_unreached.Reads as lowest-unreached-reads
-use Rattle.separation.proofs.depths.find_depths.Reads as find-depths-reads
 
 -- the depth of v stands in a list
 abbrev DepthAt : Graph → List ℕ → ℕ → Type 0

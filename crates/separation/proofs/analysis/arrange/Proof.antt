@@ -6,10 +6,6 @@ use borrow.Author.Needs.{needs}
 use Rattle.separation.proofs.Arranging.{ends-wider}
 use Rattle.separation.proofs.analysis.arrange.Statement.{statement}
 use Rattle.separation.proofs.analysis.arrange.Tie as tie
-use Rattle.separation.proofs.analysis.arrange.Reads as reads
-use Rattle.separation.proofs.analysis.arrange.Lts as lts
-use Rattle.separation.proofs.links.link.Reads as link-reads
-use Rattle.separation.proofs.order.order_events.Reads as order-events-reads
 
 link-requires : tie.Need-link-requires
 link-requires c κs =

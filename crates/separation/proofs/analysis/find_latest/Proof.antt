@@ -3,10 +3,6 @@ use mathlib.Core.Path.{_≡_, refl, _∙_}
 use borrow.Author.Needs.{needs}
 use Rattle.separation.proofs.analysis.find_latest.Statement.{statement}
 use Rattle.separation.proofs.analysis.find_latest.Tie as tie
-use Rattle.separation.proofs.analysis.find_latest.Reads as reads
-use Rattle.separation.proofs.analysis.find_latest.Lts as lts
-use Rattle.separation.proofs.latest.find_u.Reads as find-u-reads
-use Rattle.separation.proofs.paths.find_m.Reads as find-m-reads
 
 slice-aggregate-find-m : tie.Need-slice-aggregate-find-m
 slice-aggregate-find-m c = search needs

@@ -8,10 +8,6 @@ use Rattle.separation.proofs.Outward.{delay-held, written-held}
 use Rattle.separation.proofs.Filling.{Filling, filling-none, filling-more}
 use Rattle.separation.proofs.rounded.round_delays.Statement.{statement}
 use Rattle.separation.proofs.rounded.round_delays.Tie as tie
-use Rattle.separation.proofs.rounded.round_delays.Reads as reads
-use Rattle.separation.proofs.rounded.round_delays.Lts as lts
-use Rattle.separation.proofs.rounded.round_down.Reads as round-down-reads
-use Rattle.separation.proofs.rounded.round_up.Reads as round-up-reads
 
 abbrev Inv-loop : tie.InvT-loop
 Inv-loop step leasts mosts low₀ high₀ i₀ low high i =

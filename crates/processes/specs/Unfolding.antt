@@ -1,0 +1,101 @@
+-- The promise of the unfolding. Document 01, sections "Process graphs and their unfolding" and "Refusal numbers"; demand 2, last sentence.
+--     CountsOutside g K        == refusal 1 of the process graph: a count is outside its limits, or the template lists differ in length
+--     ShortLists …             == refusal 1 of the lent lists: one has fewer than templates × K places
+--     UnknownEvent g j         == refusal 2: template j names an event that doesn't exist
+--     DelayOutside g j         == refusal 3: a delay of template j is out of range, or d > D
+--     MarkOutside g j          == refusal 7: the offset mark of template j is neither 0 nor 1
+--     Verdict g K Short        == the refusals 1, 2, 3, 7, in 01's order
+--     RuleAt g k j graph i     == rule i of the graph is the instance of template j at k
+--     Unfolds g K graph        == the graph holds exactly the occurrences and rules of the unfolding, in 01's order
+--     Answered g K Short a     == a is the answer: the verdict's number and place, and both counts where nothing is refused
+--     Written g K a olds news  == what the four lent lists hold after
+-- Assumes nothing.
+use mathlib.Core.Path.{_≡_}
+use mathlib.Core.Logic.{_⊎_}
+use mathlib.Core.List.{List}
+use Prim.Native.Nat.{ℕ, _+_, _*_, _<_, _≤_}
+use lib.IntN.{ℤ}
+use lib.ListN.{length, take, drop}
+use Rattle.graphs.specs.Graph as Event
+use Rattle.graphs.specs.Graph.{Graph, graphOf}
+use Rattle.graphs.specs.Refusal.{First, Accepted, AtZero, Lowest, OutsideDelays}
+use Rattle.processes.specs.declared.Unfolded.{Unfolded}
+use Rattle.processes.specs.Process.{ProcessGraph, templates, source, target, least, most, mark, Node, number, Instance}
+
+-- "a count is outside its limits, the … template lists differ in length"; "p ≥ 1", "K ≥ 1", "1 + p × K ≤ 1,024 and templates × K ≤ 4,096"
+pub data CountsOutside (g : ProcessGraph) (K : ℕ) : Type 0 where
+  no-events : g .events ≡ 0 → CountsOutside g K
+  no-copies : K ≡ 0 → CountsOutside g K
+  many-occurrences : 1024 < 1 + g .events * K → CountsOutside g K
+  many-rules : 4096 < templates g * K → CountsOutside g K
+  targets-differ : (length (g .targets) ≡ templates g → ⊥) → CountsOutside g K
+  leasts-differ : (length (g .leasts) ≡ templates g → ⊥) → CountsOutside g K
+  mosts-differ : (length (g .mosts) ≡ templates g → ⊥) → CountsOutside g K
+  marks-differ : (length (g .marks) ≡ templates g → ⊥) → CountsOutside g K
+
+-- "each of the four output lists needs that many places"
+pub data ShortLists (g : ProcessGraph) (K : ℕ) (ss ts : List ℕ) (ds Ds : List ℤ) : Type 0 where
+  short-sources : length ss < templates g * K → ShortLists g K ss ts ds Ds
+  short-targets : length ts < templates g * K → ShortLists g K ss ts ds Ds
+  short-leasts : length ds < templates g * K → ShortLists g K ss ts ds Ds
+  short-mosts : length Ds < templates g * K → ShortLists g K ss ts ds Ds
+
+pub record UnknownEvent (g : ProcessGraph) (j : ℕ) : Type 0 where
+  pub is-template : j < templates g
+  pub unknown : (g .events ≤ source g j .0) ⊎ (g .events ≤ target g j .0)
+
+pub record DelayOutside (g : ProcessGraph) (j : ℕ) : Type 0 where
+  pub is-template : j < templates g
+  pub outside : OutsideDelays (least g j) (most g j)
+
+pub record MarkOutside (g : ProcessGraph) (j : ℕ) : Type 0 where
+  pub is-template : j < templates g
+  pub not-zero : mark g j ≡ 0 → ⊥
+  pub not-one : mark g j ≡ 1 → ⊥
+
+-- "unfolding 1, 2, 3, 7"
+abbrev pub Verdict : ProcessGraph → ℕ → Type 0 → ℕ → ℕ → Type 0
+Verdict g K Short =
+    First 1 (AtZero (CountsOutside g K ⊎ Short))
+    (First 2 (Lowest (UnknownEvent g)) (First 3 (Lowest (DelayOutside g)) (First 7 (Lowest (MarkOutside g)) Accepted)))
+
+-- rule i is the instance of template j at k
+pub record RuleAt (g : ProcessGraph) (k j : ℕ) (graph : Graph) (i : ℕ) : Type 0 where
+  pub from : Node
+  pub to : Node
+  pub from-number : Event.source graph i ≡ number from
+  pub to-number : Event.target graph i ≡ number to
+  pub instance : Instance g k j from to (Event.least graph i) (Event.most graph i)
+
+-- "Rules are written for k = 0, then 1, and so on; within one k, one rule per template in template order": template j at k is rule k × templates + j
+pub record Unfolds (g : ProcessGraph) (K : ℕ) (graph : Graph) : Type 0 where
+  pub event-count : graph .events ≡ 1 + g .events * K
+  pub sources-count : length (graph .sources) ≡ templates g * K
+  pub targets-count : length (graph .targets) ≡ templates g * K
+  pub leasts-count : length (graph .leasts) ≡ templates g * K
+  pub mosts-count : length (graph .mosts) ≡ templates g * K
+  pub each : (k j : ℕ) → k < K → j < templates g → RuleAt g k j graph (k * templates g + j)
+
+-- "The answer carries the event count 1 + p × K and the rule count, both 0 when refused"
+pub record Answered (g : ProcessGraph) (K : ℕ) (Short : Type 0) (a : Unfolded) : Type 0 where
+  pub verdict : Verdict g K Short (a .refusal) (a .place)
+  pub event-count : a .refusal ≡ 0 → a .events ≡ 1 + g .events * K
+  pub rule-count : a .refusal ≡ 0 → a .rules ≡ templates g * K
+  pub no-events : (a .refusal ≡ 0 → ⊥) → a .events ≡ 0
+  pub no-rules : (a .refusal ≡ 0 → ⊥) → a .rules ≡ 0
+
+-- "places beyond keep what they held"; refused, "every lent list keeps its contents"
+pub record Written (g : ProcessGraph) (K : ℕ) (a : Unfolded) (ss₀ ts₀ : List ℕ) (ds₀ Ds₀ : List ℤ) (ss ts : List ℕ) (ds Ds : List ℤ) : Type 0 where
+  pub unfolds :
+      a .refusal ≡ 0 →
+      Unfolds g K
+      (graphOf (1 + g .events * K) (take (templates g * K) ss) (take (templates g * K) ts) (take (templates g * K) ds) (take (templates g * K) Ds))
+  pub sources-beyond : a .refusal ≡ 0 → drop (templates g * K) ss ≡ drop (templates g * K) ss₀
+  pub targets-beyond : a .refusal ≡ 0 → drop (templates g * K) ts ≡ drop (templates g * K) ts₀
+  pub leasts-beyond : a .refusal ≡ 0 → drop (templates g * K) ds ≡ drop (templates g * K) ds₀
+  pub mosts-beyond : a .refusal ≡ 0 → drop (templates g * K) Ds ≡ drop (templates g * K) Ds₀
+  pub sources-kept : (a .refusal ≡ 0 → ⊥) → ss ≡ ss₀
+  pub targets-kept : (a .refusal ≡ 0 → ⊥) → ts ≡ ts₀
+  pub leasts-kept : (a .refusal ≡ 0 → ⊥) → ds ≡ ds₀
+  pub mosts-kept : (a .refusal ≡ 0 → ⊥) → Ds ≡ Ds₀
+  pub lengths-kept : (length ss ≡ length ss₀) × (length ts ≡ length ts₀) × (length ds ≡ length ds₀) × (length Ds ≡ length Ds₀)
