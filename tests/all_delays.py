@@ -8,6 +8,7 @@ which the file crates/trials/stdout has and `rt ci` holds the program to. It sha
     separations   the greatest t(t) - t(s) over every choice of a delay for every rule; 01's other reading, by bounds, must admit the same times
     depths        the longest of all paths from the root, which are listed
     schedules     what the analyser wrote is checked: it is an execution, each event is as late against s as in any, each delay is the greatest that fits
+    unfoldings    the rules of small process graphs, by 01's three cases
     coarse form   every bound moved outward tick by tick to a multiple of q, then the greatest t(t) - t(s) over all executions of that graph
 
 A line has parts behind semicolons; `parts_of` names them in order, each with the check of its numbers. A new kind of answer is one more part there.
@@ -21,6 +22,7 @@ from collections import namedtuple
 
 STDOUT = pathlib.Path(__file__).resolve().parent.parent / "crates" / "trials" / "stdout"
 GRAPHS = 300
+PROCESSES = 60
 KEPT = 99  # what the lent lists hold before a question
 SHOWN = 20  # how many differences are printed
 
@@ -180,6 +182,63 @@ def coarse_answer(graph, known, s, t, q):
     return [0, 0, greatest, known.depths[s], known.depths[t]]
 
 
+# ---- unfoldings
+
+Template = namedtuple("Template", "source target least most mark")
+
+
+def make_processes():
+    """The small process graphs, by the rule that crates/trials/src/unfoldings.rt has too: p, K and the templates."""
+    state = 7
+    for _ in range(PROCESSES):
+        first = step(state)
+        state = step(first)
+        v, w = first // 65536, state // 65536
+        p = 1 + v % 3
+        sources = [v // 9 % p, v // 27 % p, v // 81 % 3, v // 243 % p]
+        targets = [w % p, w // 3 % p, w // 9 % p, w // 27 % p]
+        marks = [w // 81 % 2, w // 162 % 2, w // 324 % 2, w // 648 % 2]
+        yield p, 1 + v // 3 % 3, [Template(*each) for each in zip(sources, targets, range(4), range(3, 7), marks)]
+
+
+def unfolding(p, copies, templates):
+    """The rules of an unfolding, straight from 01's three cases."""
+
+    def number(event, k):
+        return 1 + k * p + event
+
+    rules = []
+    for k in range(copies):
+        for each in templates:
+            if each.mark == 0:
+                rules.append(Rule(number(each.source, k), number(each.target, k), each.least, each.most))
+            elif k >= 1:
+                rules.append(Rule(number(each.source, k - 1), number(each.target, k), each.least, each.most))
+            else:
+                rules.append(Rule(0, number(each.target, 0), 0, 0))
+    return rules
+
+
+def process_line(number, p, copies, templates):
+    """The line of a process graph: the answer and the four lists of 12 places."""
+    broken = [place for place, each in enumerate(templates) if each.source >= p or each.target >= p]
+    rules = [] if broken else unfolding(p, copies, templates)
+    answer = [2, broken[0], 0, 0] if broken else [0, 0, 1 + p * copies, len(rules)]
+    columns = [[rule[column] for rule in rules] + [KEPT] * (12 - len(rules)) for column in range(4)]
+    lists = [f"{name} " + " ".join(str(x) for x in column) for name, column in zip(("sources", "targets", "leasts", "mosts"), columns)]
+    return "; ".join([f"process {number}", " ".join(str(x) for x in answer)] + lists)
+
+
+def compare_processes(lines):
+    """The differences between the lines of the process graphs and what is expected of them."""
+    differences = [] if len(lines) == PROCESSES else [f"{len(lines)} lines of process graphs, expected {PROCESSES}"]
+    for number, ((p, copies, templates), line) in enumerate(zip(make_processes(), lines)):
+        expected = process_line(number, p, copies, templates)
+        if line != expected:
+            differences.append(f"process {number}: found {line!r}, expected {expected!r}")
+    return differences
+
+
 # ---- what is found out of a graph, and the checks of an answer's parts
 
 Known = namedtuple("Known", "executions separations depths")
@@ -289,6 +348,7 @@ def main():
     differences = []
     if len(lines) != GRAPHS or not text.endswith("\n"):
         differences.append(f"{STDOUT.name} has {len(lines)} lines of graphs, expected {GRAPHS}")
+    differences += compare_processes([line for line in text.split("\n") if line.startswith("process ")])
     accepted = choices = compared = 0
     refusals = {}
     for number, (graph, line) in enumerate(zip(make_graphs(), lines)):
@@ -311,7 +371,7 @@ def main():
     refused = ", ".join(f"{count} with {verdict}" for verdict, count in sorted(refusals.items()) if verdict)
     print(
         f"all_delays: {GRAPHS} graphs ({accepted} accepted, refused {refused}), {choices} choices of delays,"
-        f" {compared} parts compared, {len(differences)} differences"
+        f" {PROCESSES} process graphs, {compared} parts compared, {len(differences)} differences"
     )
     return 1 if differences else 0
 

@@ -3,7 +3,6 @@
 --     none-lowest         where no number is the lowest that is A, none is A
 --     plain g             the templates of g, read as the rules of an event graph
 --     Kept g K            every rule of 01 for process graphs is kept
---     ProcessCounts g K   its part for the counts
 --     counts-of, ends-of, delays-of, mark-of    what the absence of each refusal says; counts-inside is the first one's converse
 --     kept-of             unfolding refuses nothing only where all is kept
 --     kept-accepted       and where all is kept and the lists are long enough, it refuses nothing
@@ -31,6 +30,7 @@ use Rattle.separation.specs.Promise as analysis
 use Rattle.separation.specs.Promise.{source-missing, target-missing}
 use Rattle.separation.specs.Checks.{InsideDelays}
 use Rattle.processes.specs.declared.Unfolded.{Unfolded}
+use Rattle.processes.specs.Checks.{CountsKept}
 use Rattle.processes.specs.Process.{ProcessGraph, templates, source, target, mark, Node, number, Instance, together, onward, start}
 use Rattle.processes.specs.Unfolding.{
   CountsOutside,
@@ -66,24 +66,14 @@ abbrev pub plain : ProcessGraph → Graph
 plain g = graphOf (g .events) (g .sources) (g .targets) (g .leasts) (g .mosts)
 
 -- "p ≥ 1", "K ≥ 1", "1 + p × K ≤ 1,024 and templates × K ≤ 4,096", one entry for each template in each of the five lists
-pub record ProcessCounts (g : ProcessGraph) (K : ℕ) : Type 0 where
-  pub some-event : 1 ≤ g .events
-  pub some-copy : 1 ≤ K
-  pub few-occurrences : 1 + g .events * K ≤ 1024
-  pub few-rules : templates g * K ≤ 4096
-  pub targets-match : length (g .targets) ≡ templates g
-  pub leasts-match : length (g .leasts) ≡ templates g
-  pub mosts-match : length (g .mosts) ≡ templates g
-  pub marks-match : length (g .marks) ≡ templates g
-
 pub record Kept (g : ProcessGraph) (K : ℕ) : Type 0 where
-  pub counts : ProcessCounts g K
+  pub counts : CountsKept g K
   pub ends : (j : ℕ) → j < templates g → EndsKept (plain g) j
   pub delays : (j : ℕ) → j < templates g → DelaysKept 1000000 (plain g) j
   pub marks : (j : ℕ) → j < templates g → (mark g j ≡ 0) ⊎ (mark g j ≡ 1)
 
 module _ {g : ProcessGraph} {K : ℕ} where
-  pub counts-of : (CountsOutside g K → ⊥) → ProcessCounts g K
+  pub counts-of : (CountsOutside g K → ⊥) → CountsKept g K
   counts-of inside =
       let some : g .events ≡ 0 → ⊥ = λ e. inside (no-events e) in
       let copies : K ≡ 0 → ⊥ = λ e. inside (no-copies e) in
@@ -100,7 +90,7 @@ module _ {g : ProcessGraph} {K : ℕ} where
         marks-match = stable (length (g .marks)) (templates g) (λ d. inside (marks-differ d));
       }
 
-  pub counts-inside : ProcessCounts g K → CountsOutside g K → ⊥
+  pub counts-inside : CountsKept g K → CountsOutside g K → ⊥
   counts-inside kept (no-events e) = omega (arith, kept .some-event)
   counts-inside kept (no-copies e) = omega (arith, kept .some-copy)
   counts-inside kept (many-occurrences l) = omega (arith, kept .few-occurrences)

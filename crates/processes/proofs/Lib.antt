@@ -1,6 +1,9 @@
--- Laws of process graphs, and the theorems about the unfolding's promise.
+-- Laws of process graphs and their unfolding, and the theorems about the promise.
 pub mod Numbers
 pub mod Exactly
 pub mod Occurrences
 pub mod Handed
 pub mod Unique
+pub mod Products
+pub mod Verdicts
+pub mod Writing

@@ -4,6 +4,14 @@
 ghost use Rattle.processes.specs.Process.{processOf};
 ghost use Rattle.processes.specs.Unfolding.{Answered, ShortLists, Written};
 
+mod checks;
+mod input;
+mod rules;
+
+use crate::input::check_process;
+use crate::input::fewest;
+use crate::rules::write_rules;
+
 // A process event u, by its number.
 pub struct Event(pub usize);
 
@@ -16,4 +24,48 @@ pub struct Unfolded {
     pub place: usize,
     pub events: usize,
     pub rules: usize,
+}
+
+// K = `copies` occurrences of each of p process events, and for each k below K the rule of every template, written into the four lent lists. Places beyond
+// keep what they held; refused, all do.
+pub fn unfold(
+    p: usize,
+    copies: usize,
+    sources: &[usize],
+    targets: &[usize],
+    leasts: &[i64],
+    mosts: &[i64],
+    marks: &[usize],
+    out_sources: &mut [usize],
+    out_targets: &mut [usize],
+    out_leasts: &mut [i64],
+    out_mosts: &mut [i64],
+) -> Unfolded
+    ensures { λ r. ⌜ Answered (processOf p (now (sources .entry)) (now (targets .entry)) (now (leasts .entry)) (now (mosts .entry)) (now (marks .entry))) copies (ShortLists (processOf p (now (sources .entry)) (now (targets .entry)) (now (leasts .entry)) (now (mosts .entry)) (now (marks .entry))) copies (now («out_sources» .entry)) (now («out_targets» .entry)) (now («out_leasts» .entry)) (now («out_mosts» .entry))) r ⌝ }
+    ensures { λ r. ⌜ Written (processOf p (now (sources .entry)) (now (targets .entry)) (now (leasts .entry)) (now (mosts .entry)) (now (marks .entry))) copies r (now («out_sources» .entry)) (now («out_targets» .entry)) (now («out_leasts» .entry)) (now («out_mosts» .entry)) (now («out_sources» .exit)) (now («out_targets» .exit)) (now («out_leasts» .exit)) (now («out_mosts» .exit)) ⌝ }
+{
+    let places = fewest(
+        out_sources.len(),
+        out_targets.len(),
+        out_leasts.len(),
+        out_mosts.len(),
+    );
+    let answer = check_process(p, copies, sources, targets, leasts, mosts, marks, places);
+    if answer.refusal != 0 {
+        return answer;
+    }
+    write_rules(
+        p,
+        copies,
+        sources,
+        targets,
+        leasts,
+        mosts,
+        marks,
+        out_sources,
+        out_targets,
+        out_leasts,
+        out_mosts,
+    );
+    answer
 }

@@ -4,6 +4,7 @@
 //     refusals     each refusal, its place, and which of two is given first
 //     schedules    the two lists of a schedule: written, kept, longer than needed, too short
 //     steps        the coarse form: figures, limits of the step, and the order of its refusal
+//     unfoldings   unfoldings of process graphs: limits, refusals, figure 1, small process graphs
 //     graphs       the rule that makes the small graphs
 //     questions    what is asked of a small graph
 // A line is a label and the answer: refusal, place, separation, depth of the source, depth of the target; the lists follow where a schedule was asked for.
@@ -17,6 +18,7 @@ mod refusals;
 mod schedules;
 mod sizes;
 mod steps;
+mod unfoldings;
 
 use crate::graphs::make_rules;
 use crate::graphs::shape_of;
@@ -66,5 +68,6 @@ fn main() {
     refusals::all();
     schedules::all();
     steps::all();
+    unfoldings::all();
     small_graphs();
 }

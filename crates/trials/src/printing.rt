@@ -3,6 +3,8 @@
 //     count       a blank and a number without a sign
 //     number      a blank and a number with its sign
 //     numbers     the numbers of a list
+//     counts      the numbers of a list of numbers without a sign
+//     unfolded    the four numbers of an unfolding's answer: refusal, place, events, rules
 //     answer      the five numbers of an answer: refusal, place, separation, depth of the source, depth of the target
 //     schedule    an answer and the two lists of a schedule
 ghost use mathlib.Core.Path.{_≡_};
@@ -49,6 +51,23 @@ pub(crate) fn numbers(list: &[i64]) {
         number(list[i]);
         i += 1;
     }
+}
+
+// Each number without a sign of a list, in order.
+pub(crate) fn counts(list: &[usize]) {
+    let mut i = 0;
+    while i < list.len() {
+        count(list[i]);
+        i += 1;
+    }
+}
+
+// The four numbers of the answer to an unfolding.
+pub(crate) fn unfolded(a: processes::Unfolded) {
+    count(a.refusal);
+    count(a.place);
+    count(a.events);
+    count(a.rules);
 }
 
 // The five numbers of an answer.

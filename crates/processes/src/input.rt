@@ -1,0 +1,77 @@
+// The answer to an unfolding: the refusals 1, 2, 3, 7 in this order, or both counts.
+ghost use mathlib.Core.Path.{_≡_};
+ghost use mathlib.Core.Logic.{_⊎_};
+ghost use Prim.Native.Nat.{ℕ, _<_, _≤_};
+ghost use Rattle.processes.specs.Process.{processOf};
+ghost use Rattle.processes.specs.Checks.{ProcessChecked};
+use crate::Unfolded;
+use crate::checks::broken_mark;
+use crate::checks::counts_kept;
+use crate::checks::outside_delay;
+use crate::checks::unknown_event;
+
+// Refusal `number` at `place`: both counts are 0.
+fn refused(number: usize, place: usize) -> Unfolded
+    ensures { λ r. ⌜ (r .refusal ≡ number) × (r .place ≡ place) × (r .events ≡ 0) × (r .rules ≡ 0) ⌝ }
+{
+    Unfolded {
+        refusal: number,
+        place,
+        events: 0,
+        rules: 0,
+    }
+}
+
+// The lesser of two numbers.
+fn lesser(a: usize, b: usize) -> usize
+    ensures { λ r. ⌜ (r ≤ a) × (r ≤ b) × ((r ≡ a) ⊎ (r ≡ b)) ⌝ }
+{
+    if a < b { a } else { b }
+}
+
+// The least of four numbers: how many places the shortest of four lists has.
+pub(crate) fn fewest(a: usize, b: usize, c: usize, d: usize) -> usize
+    ensures { λ r. ⌜ (r ≤ a) × (r ≤ b) × (r ≤ c) × (r ≤ d) × ((r ≡ a) ⊎ ((r ≡ b) ⊎ ((r ≡ c) ⊎ (r ≡ d)))) ⌝ }
+{
+    lesser(a, lesser(b, lesser(c, d)))
+}
+
+// The answer, where the shortest lent list has `places` places.
+pub(crate) fn check_process(
+    p: usize,
+    copies: usize,
+    sources: &[usize],
+    targets: &[usize],
+    leasts: &[i64],
+    mosts: &[i64],
+    marks: &[usize],
+    places: usize,
+) -> Unfolded
+    ensures { λ r. ⌜ ProcessChecked (processOf p (now (sources .entry)) (now (targets .entry)) (now (leasts .entry)) (now (mosts .entry)) (now (marks .entry))) copies places r ⌝ }
+{
+    if !counts_kept(p, copies, sources, targets, leasts, mosts, marks) {
+        return refused(1, 0);
+    }
+    let rules = sources.len() * copies;
+    if places < rules {
+        return refused(1, 0);
+    }
+    let unknown = unknown_event(p, sources, targets);
+    if unknown < sources.len() {
+        return refused(2, unknown);
+    }
+    let outside = outside_delay(leasts, mosts);
+    if outside < leasts.len() {
+        return refused(3, outside);
+    }
+    let broken = broken_mark(marks);
+    if broken < marks.len() {
+        return refused(7, broken);
+    }
+    Unfolded {
+        refusal: 0,
+        place: 0,
+        events: 1 + p * copies,
+        rules,
+    }
+}

@@ -1,0 +1,127 @@
+// The rules of the unfolding, written where the caller lends the lists.
+ghost use mathlib.Core.Path.{_≡_};
+ghost use Prim.Native.Nat.{ℕ, _+_, _*_, _<_, _≤_};
+ghost use lib.ListN.{length, getD};
+ghost use Rattle.processes.specs.Process.{processOf};
+ghost use Rattle.processes.specs.Checks.{ProcessKept, EventsKnown, MarkKept};
+ghost use Rattle.processes.specs.Writing.{SourceAt, DelayAt, RuleWritten, RulesWritten};
+use crate::Event;
+use crate::Occurrence;
+
+// Occurrence k of the process event u, of p events.
+fn occurrence(p: usize, k: usize, u: Event) -> Occurrence
+    requires { ⌜ k * p + u .0 < 1024 ⌝ }
+    ensures { λ r. ⌜ r .0 ≡ 1 + k * p + u .0 ⌝ }
+{
+    let i = u.0;
+    Occurrence(1 + k * p + i)
+}
+
+// The number of the source of a rule at k: the template's source at k or, marked 1, at k − 1; a start rule has the root, 0.
+fn source_at(p: usize, k: usize, mark: usize, u: Event) -> usize
+    requires { ⌜ k * p + u .0 < 1024 ⌝ }
+    ensures { λ r. ⌜ SourceAt p k mark (u .0) r ⌝ }
+{
+    if mark == 0 {
+        let o = occurrence(p, k, u);
+        return o.0;
+    }
+    if k == 0 {
+        return 0;
+    }
+    let o = occurrence(p, k - 1, u);
+    o.0
+}
+
+// A delay of a rule at k: the template's, or 0 in a start rule.
+fn delay_at(k: usize, mark: usize, delay: i64) -> i64
+    ensures { λ r. ⌜ DelayAt k mark delay r ⌝ }
+{
+    if mark == 0 {
+        return delay;
+    }
+    if k == 0 {
+        return 0;
+    }
+    delay
+}
+
+// The rule of template j at k, written into place i.
+fn write_rule(
+    p: usize,
+    k: usize,
+    j: usize,
+    i: usize,
+    sources: &[usize],
+    targets: &[usize],
+    leasts: &[i64],
+    mosts: &[i64],
+    marks: &[usize],
+    out_sources: &mut [usize],
+    out_targets: &mut [usize],
+    out_leasts: &mut [i64],
+    out_mosts: &mut [i64],
+)
+    requires { ⌜ (length (now targets) ≡ length (now sources)) × (length (now leasts) ≡ length (now sources)) × (length (now mosts) ≡ length (now sources)) × (length (now marks) ≡ length (now sources)) × (length (now sources) ≤ 4096) × (j < length (now sources)) ⌝ }
+    requires { ⌜ (k * p + getD (now sources) j 0 < 1024) × (k * p + getD (now targets) j 0 < 1024) ⌝ }
+    requires { ⌜ (i < 4096) × (i < length (now «out_sources»)) × (i < length (now «out_targets»)) × (i < length (now «out_leasts»)) × (i < length (now «out_mosts»)) ⌝ }
+    ensures { λ _. ⌜ RuleWritten (processOf p (now (sources .entry)) (now (targets .entry)) (now (leasts .entry)) (now (mosts .entry)) (now (marks .entry))) k j i (now («out_sources» .entry)) (now («out_targets» .entry)) (now («out_leasts» .entry)) (now («out_mosts» .entry)) (now («out_sources» .exit)) (now («out_targets» .exit)) (now («out_leasts» .exit)) (now («out_mosts» .exit)) ⌝ }
+{
+    let mark = marks[j];
+    let source = sources[j];
+    let target = targets[j];
+    out_sources[i] = source_at(p, k, mark, Event(source));
+    let o = occurrence(p, k, Event(target));
+    let number = o.0;
+    out_targets[i] = number;
+    out_leasts[i] = delay_at(k, mark, leasts[j]);
+    out_mosts[i] = delay_at(k, mark, mosts[j]);
+}
+
+// All rules: for k = 0, then 1, and so on, one for each template.
+pub(crate) fn write_rules(
+    p: usize,
+    copies: usize,
+    sources: &[usize],
+    targets: &[usize],
+    leasts: &[i64],
+    mosts: &[i64],
+    marks: &[usize],
+    out_sources: &mut [usize],
+    out_targets: &mut [usize],
+    out_leasts: &mut [i64],
+    out_mosts: &mut [i64],
+)
+    requires { ⌜ ProcessKept (processOf p (now sources) (now targets) (now leasts) (now mosts) (now marks)) copies (length (now sources) * copies) ⌝ }
+    requires { ⌜ (length (now sources) * copies ≤ length (now «out_sources»)) × (length (now sources) * copies ≤ length (now «out_targets»)) × (length (now sources) * copies ≤ length (now «out_leasts»)) × (length (now sources) * copies ≤ length (now «out_mosts»)) ⌝ }
+    ensures { λ _. ⌜ RulesWritten (processOf p (now (sources .entry)) (now (targets .entry)) (now (leasts .entry)) (now (mosts .entry)) (now (marks .entry))) copies (now («out_sources» .entry)) (now («out_targets» .entry)) (now («out_leasts» .entry)) (now («out_mosts» .entry)) (now («out_sources» .exit)) (now («out_targets» .exit)) (now («out_leasts» .exit)) (now («out_mosts» .exit)) ⌝ }
+{
+    let templates = sources.len();
+    let rules = templates * copies;
+    let mut i = 0;
+    let mut k = 0;
+    let mut j = 0;
+    while i < rules {
+        write_rule(
+            p,
+            k,
+            j,
+            i,
+            sources,
+            targets,
+            leasts,
+            mosts,
+            marks,
+            out_sources,
+            out_targets,
+            out_leasts,
+            out_mosts,
+        );
+        i += 1;
+        j += 1;
+        if j == templates {
+            j = 0;
+            k += 1;
+        }
+    }
+}
