@@ -8,6 +8,9 @@ ghost use Rattle.processes.specs.Writing.{SourceAt, DelayAt, RuleWritten
 use crate::Event;
 use crate::Occurrence;
 
+// The root's number in the event graph.
+const ROOT: usize = 0;
+
 // Occurrence k of the process event u, of p events.
 fn occurrence(p: usize, k: usize, u: Event) -> Occurrence
     requires { ⌜ k * p + u .0 < 1024 ⌝ }
@@ -17,30 +20,31 @@ fn occurrence(p: usize, k: usize, u: Event) -> Occurrence
     Occurrence(1 + k * p + i)
 }
 
-// The number of the source of a rule at k: the template's source at k or, marked 1, at k − 1; a start rule has the root, 0.
+// The number of the source of a rule at k: the template's source at k or, marked 1, at k − 1; a start rule has the root.
 fn source_at(p: usize, k: usize, mark: usize, u: Event) -> usize
     requires { ⌜ k * p + u .0 < 1024 ⌝ }
     ensures { λ r. ⌜ SourceAt p k mark (u .0) r ⌝ }
 {
+    let same = occurrence(p, k, u);
+    let number = same.0;
     if mark == 0 {
-        let o = occurrence(p, k, u);
-        return o.0;
+        return number;
     }
     if k == 0 {
-        return 0;
+        return ROOT;
     }
-    let o = occurrence(p, k - 1, u);
-    o.0
+    let before = occurrence(p, k - 1, u);
+    before.0
 }
 
 // A delay of a rule at k: the template's, or 0 in a start rule.
 fn delay_at(k: usize, mark: usize, delay: i64) -> i64
     ensures { λ r. ⌜ DelayAt k mark delay r ⌝ }
 {
-    if mark == 0 {
+    if k > 0 {
         return delay;
     }
-    if k == 0 {
+    if mark == 1 {
         return 0;
     }
     delay

@@ -35,7 +35,7 @@ sub-occurrence : tie.Need-sub-occurrence
 sub-occurrence c = search needs
 
 occurrence-requires-2 : tie.Need-occurrence-requires-2
-occurrence-requires-2 c κs = copy-before _ _ _ (c .before .before .pre)
+occurrence-requires-2 c κs = copy-before _ _ _ (c .before .before .before .pre)
 
 returns-3 : tie.Need-returns-3
 returns-3 c = onward-from _ _ _ _ _ (c .before .before .if1 .left) (c .before .if2 .left) (c .occurrence2 .ensures)
