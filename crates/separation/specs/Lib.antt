@@ -1,4 +1,4 @@
--- What the contracts of `separation` cite. A reader of its public promises needs Promise.antt alone; the others serve the functions within.
+-- What the contracts of `separation` cite. A reader of its public promises needs Promise.antt and Coarse.antt; the others serve the functions within.
 pub mod Promise
 pub mod Links
 pub mod Order
