@@ -1,8 +1,8 @@
 #!/usr/bin/env python3
 """Holds docs/PROMISES.md to the code: every public function, anything that another crate or C can call, asks nothing of its caller, promises
 something, and has a row in the table "Public functions" that names its promise, the theorem that two allowed results are equal, and two must-fail edits
-or more. Each name in a row must be found: the promise in specs/, the theorem in proofs/, the edits in must-fail/. A row for a function that is not there is a fault
-too. Exceptions stand in the table "Exceptions" below it, with their reason.
+or more. Each name in a row must be found: the promise in specs/ and the theorem in proofs/, of the function's crate or of one below it, the edits in the
+crate's must-fail/. A row for a function that is not there is a fault too. Exceptions stand in the table "Exceptions" below it, with their reason.
 
 Exit status 0: nothing is wrong. 1: the faults are printed. The last line counts the functions.
 """
@@ -43,10 +43,20 @@ def table(title):
     return [[re.findall(r"`([^`]+)`", cell) for cell in row.strip("|").split("|")] for row in rows[2:]]
 
 
+def with_floors(crate):
+    """A crate and those that crates.txt puts below it."""
+    for line in (TOP / "crates.txt").read_text(encoding="utf-8").split("\n"):
+        name, colon, below = line.partition(":")
+        if colon and name == crate:
+            return [crate, *below.split()]
+    return [crate]
+
+
 def stands_in(name, crate, folder):
-    """Whether a name is declared in a file of the crate's folder."""
+    """Whether a name is declared in a file of that folder, of the crate or of one below it."""
     word = re.compile(rf"^\s*(?:pub |abbrev |unfoldable )*(?:record |data )?{re.escape(name)}(?: |$)", re.M)
-    return any(word.search(path.read_text(encoding="utf-8")) for path in (TOP / "crates" / crate / folder).rglob("*.antt"))
+    files = [path for floor in with_floors(crate) for path in (TOP / "crates" / floor / folder).rglob("*.antt")]
+    return any(word.search(path.read_text(encoding="utf-8")) for path in files)
 
 
 def faults_of_row(crate, name, row):

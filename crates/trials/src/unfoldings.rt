@@ -1,7 +1,5 @@
-// Unfoldings: 01's limits, its figure 1, the refusals, and many small process graphs. A line is a label and the answer: refusal, place, events, rules;
+// Unfoldings: 01's limits, its figure 1 and the refusals. A line is a label and the answer: refusal, place, events, rules;
 // the four lists follow, full of 99s before, so that a place that keeps what it held shows.
-ghost use Prim.Native.Nat.{_≤_};
-use crate::graphs::step;
 
 // Unfolds a process graph into lists of 12 places, and writes the answer and the lists.
 fn ask_unfolding(
@@ -124,43 +122,9 @@ fn refusals() {
     ask_unfolding(2, 1, &[0, 1], &[1, 0], &[0, 0], &[1, 1], &[0]);
 }
 
-// A small process graph with this number: p from 1 to 3, K from 1 to 3, four templates, all drawn from a state; answers the state after it.
-fn process(number: usize, before: usize) -> usize {
-    let a = step(before);
-    let b = step(a);
-    let v = a / 65536;
-    let w = b / 65536;
-    let p = 1 + v % 3;
-    let copies = 1 + v / 3 % 3;
-    crate::printing::text(b"process");
-    crate::printing::count(number);
-    crate::printing::text(b";");
-    ask_unfolding(
-        p,
-        copies,
-        &[v / 9 % p, v / 27 % p, v / 81 % 3, v / 243 % p],
-        &[w % p, w / 3 % p, w / 9 % p, w / 27 % p],
-        &[0, 1, 2, 3],
-        &[3, 4, 5, 6],
-        &[w / 81 % 2, w / 162 % 2, w / 324 % 2, w / 648 % 2],
-    );
-    b
-}
-
-// The small process graphs in turn.
-fn processes_in_turn() {
-    let mut state = 7;
-    let mut number = 0;
-    while number < 60 {
-        state = process(number, state);
-        number += 1;
-    }
-}
-
 // All of these.
 pub(crate) fn all() {
     figure_1();
     limits();
     refusals();
-    processes_in_turn();
 }

@@ -1,0 +1,52 @@
+-- The number that the firmware's entry makes of a refusal.
+--     refusal-small      the refusals of a text are small, so that their numbers are read back from their bits
+--     refused-fits       −4,000,000,000 minus such a number fits
+--     refused-number     and it is the entry's number
+-- Assumes nothing.
+use mathlib.Core.Path.{_≡_, refl}
+use mathlib.Core.Logic.{_⊎_, inl, inr}
+use mathlib.Core.List.{[], _∷_}
+use Prim.Native.Nat.{ℕ, zero, suc, _+_, _≤_}
+use native.Mathlib.Omega.{arith}
+use lib.Dec.{lit<}
+use lib.IntN.{ℤ, pos, negsuc, negℤ, _-ℤ_}
+use mir.Syntax.{w64}
+use mir.Val.{SFits, toZ, ofZ}
+use Rattle.integers.specs.Within.{Within}
+use Rattle.integers.proofs.Integer.{linear, difference, negation}
+use Rattle.integers.proofs.Word.{within-fits, read-back, within-difference}
+use Rattle.text.specs.Answers.{entryNumber}
+use Rattle.text.proofs.Answered.{OneOf}
+
+pub refusal-small : {k : ℕ} → OneOf (0 ∷ 1 ∷ 3 ∷ 4 ∷ 5 ∷ 6 ∷ 8 ∷ []) k → k ≤ 8
+refusal-small (inl e) = omega (arith, e)
+refusal-small (inr (inl e)) = omega (arith, e)
+refusal-small (inr (inr (inl e))) = omega (arith, e)
+refusal-small (inr (inr (inr (inl e)))) = omega (arith, e)
+refusal-small (inr (inr (inr (inr (inl e))))) = omega (arith, e)
+refusal-small (inr (inr (inr (inr (inr (inl e)))))) = omega (arith, e)
+refusal-small (inr (inr (inr (inr (inr (inr (inl e))))))) = omega (arith, e)
+
+pub within-8 : (k : ℕ) → k ≤ 8 → Within 8 (pos k)
+within-8 k l = record { above = omega (linear, l, negation (pos 8)); below = omega (linear, l) }
+
+read-small : (k : ℕ) → k ≤ 8 → toZ w64 k ≡ pos k
+read-small k l = read-back w64 8 (pos k) (lit< tt) (within-8 k l)
+
+within-refused : (k : ℕ) → k ≤ 8 → Within 4000000008 (negsuc 3999999999 -ℤ pos k)
+within-refused k l =
+    record {
+      above = omega (linear, l, difference (negsuc 3999999999) (pos k), negation (pos 4000000008));
+      below = omega (linear, l, difference (negsuc 3999999999) (pos k));
+    }
+
+pub refused-fits : (k : ℕ) → k ≤ 8 → SFits w64 (negsuc 3999999999 -ℤ toZ w64 k)
+refused-fits k l = rw (read-small k l) (within-fits w64 4000000008 (negsuc 3999999999 -ℤ pos k) (lit< tt) (within-refused k l))
+
+entry-of : (k : ℕ) (x : ℤ) → (k ≡ 0 → ⊥) → negsuc 3999999999 -ℤ pos k ≡ entryNumber k x
+entry-of zero x n = absurd (n refl)
+entry-of (suc k) x n = omega (linear, difference (negsuc 3999999999) (pos (suc k)), negation (pos (4000000000 + suc k)))
+
+pub refused-number : (k : ℕ) (x : ℤ) → k ≤ 8 → (k ≡ 0 → ⊥) → toZ w64 (ofZ w64 (negsuc 3999999999 -ℤ toZ w64 k)) ≡ entryNumber k x
+refused-number k x l n =
+    rw (read-small k l, read-back w64 4000000008 (negsuc 3999999999 -ℤ pos k) (lit< tt) (within-refused k l)) (entry-of k x n)

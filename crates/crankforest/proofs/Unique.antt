@@ -1,0 +1,76 @@
+-- Two results that an entry's promise allows for one input are equal: the number returned, those put where the caller says, and the lent lists.
+--     exact-entry-unique       of crankforest_exact
+--     schedule-entry-unique    of crankforest_schedule
+--     coarse-entry-unique      of crankforest_coarse
+--     unfold-entry-unique      of crankforest_unfold
+-- Assumes nothing.
+use mathlib.Core.Path.{_≡_, ap}
+use mathlib.Core.List.{List}
+use Prim.Native.Nat.{ℕ}
+use lib.IntN.{ℤ}
+use Rattle.graphs.specs.Graph.{Graph}
+use Rattle.separation.specs.Promise.{Answered, Written}
+use Rattle.separation.specs.Coarse.{CoarseAnswered}
+use Rattle.separation.specs.declared.Answer.{Answer}
+use Rattle.separation.proofs.Promises.{answer-unique, schedule-unique}
+use Rattle.separation.proofs.CoarsePromises.{coarse-answer-unique}
+use Rattle.processes.specs.Process.{ProcessGraph}
+use Rattle.processes.specs.Unfolding as process
+use Rattle.processes.specs.declared.Unfolded.{Unfolded}
+use Rattle.processes.proofs.Unique.{Same, unfold-unique}
+use Rattle.crankforest.specs.Entries.{answerOf, unfoldedOf}
+
+-- equal answers have equal numbers
+pub record SameAnswer (k p : ℕ) (x : ℤ) (d e : ℕ) (k′ p′ : ℕ) (x′ : ℤ) (d′ e′ : ℕ) : Type 0 where
+  pub refusal-same : k ≡ k′
+  pub place-same : p ≡ p′
+  pub separation-same : x ≡ x′
+  pub source-depth-same : d ≡ d′
+  pub target-depth-same : e ≡ e′
+
+pub record SameUnfolded (k p n r k′ p′ n′ r′ : ℕ) : Type 0 where
+  pub refusal-same : k ≡ k′
+  pub place-same : p ≡ p′
+  pub events-same : n ≡ n′
+  pub rules-same : r ≡ r′
+
+same-answer : {k p d e k′ p′ d′ e′ : ℕ} {x x′ : ℤ} → answerOf k p x d e ≡ answerOf k′ p′ x′ d′ e′ → SameAnswer k p x d e k′ p′ x′ d′ e′
+same-answer q =
+    record {
+      refusal-same = ap (λ (a : Answer). a .refusal) q;
+      place-same = ap (λ (a : Answer). a .place) q;
+      separation-same = ap (λ (a : Answer). a .separation) q;
+      source-depth-same = ap (λ (a : Answer). a .«source_depth») q;
+      target-depth-same = ap (λ (a : Answer). a .«target_depth») q;
+    }
+
+same-unfolded : {k p n r k′ p′ n′ r′ : ℕ} → unfoldedOf k p n r ≡ unfoldedOf k′ p′ n′ r′ → SameUnfolded k p n r k′ p′ n′ r′
+same-unfolded q =
+    record {
+      refusal-same = ap (λ (a : Unfolded). a .refusal) q;
+      place-same = ap (λ (a : Unfolded). a .place) q;
+      events-same = ap (λ (a : Unfolded). a .events) q;
+      rules-same = ap (λ (a : Unfolded). a .rules) q;
+    }
+
+pub exact-entry-unique : {g : Graph} {s t k p d e k′ p′ d′ e′ : ℕ} {x x′ : ℤ}
+    → Answered g s t ⊥ (answerOf k p x d e) → Answered g s t ⊥ (answerOf k′ p′ x′ d′ e′)
+    → SameAnswer k p x d e k′ p′ x′ d′ e′
+exact-entry-unique a b = same-answer (answer-unique a b)
+
+pub coarse-entry-unique : {g : Graph} {q s t k p d e k′ p′ d′ e′ : ℕ} {x x′ : ℤ}
+    → CoarseAnswered g q s t (answerOf k p x d e) → CoarseAnswered g q s t (answerOf k′ p′ x′ d′ e′)
+    → SameAnswer k p x d e k′ p′ x′ d′ e′
+coarse-entry-unique a b = same-answer (coarse-answer-unique a b)
+
+pub schedule-entry-unique : {g : Graph} {s t k p d e k′ p′ d′ e′ : ℕ} {x x′ : ℤ} {Short : Type 0} {times₀ delays₀ times delays times′ delays′ : List ℤ}
+    → Answered g s t Short (answerOf k p x d e) → Written g s (answerOf k p x d e) times₀ delays₀ times delays
+    → Answered g s t Short (answerOf k′ p′ x′ d′ e′) → Written g s (answerOf k′ p′ x′ d′ e′) times₀ delays₀ times′ delays′
+    → SameAnswer k p x d e k′ p′ x′ d′ e′ × (times ≡ times′) × (delays ≡ delays′)
+schedule-entry-unique a w b v = let same = schedule-unique a w b v in (same-answer (same .0), same .1, same .2)
+
+pub unfold-entry-unique : {g : ProcessGraph} {K k p n r k′ p′ n′ r′ : ℕ} {Short : Type 0} {ss₀ ts₀ : List ℕ} {ds₀ Ds₀ : List ℤ} {ss ss′ ts ts′ : List ℕ} {ds ds′ Ds Ds′ : List ℤ}
+    → process.Answered g K Short (unfoldedOf k p n r) → process.Written g K (unfoldedOf k p n r) ss₀ ts₀ ds₀ Ds₀ ss ts ds Ds
+    → process.Answered g K Short (unfoldedOf k′ p′ n′ r′) → process.Written g K (unfoldedOf k′ p′ n′ r′) ss₀ ts₀ ds₀ Ds₀ ss′ ts′ ds′ Ds′
+    → SameUnfolded k p n r k′ p′ n′ r′ × Same ss ss′ ts ts′ ds ds′ Ds Ds′
+unfold-entry-unique a w b v = let same = unfold-unique a w b v in (same-unfolded (same .0), same .1)

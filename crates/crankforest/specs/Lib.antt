@@ -1,0 +1,2 @@
+-- What the numbers of an entry stand for.
+pub mod Entries

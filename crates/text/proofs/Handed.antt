@@ -1,0 +1,158 @@
+-- A text's rules as they are handed on: read into four lists of 1,024 places, and taken from there as a graph.
+--     refused-on      what the reader refuses, every question about the text is refused for
+--     accepted-on     past the reader, what follows decides
+--     counts-small    an accepted text has few events and few rows, and no list is too short
+--     some-event      and one event at least
+--     Handed          what is known of the lists after an accepted reading: their first places are the text's graph
+--     handed          so it is
+--     read-refused    the reader's refusal, with nothing lent
+--     few-taken       what is taken of a list is as short as what was asked
+--     text-unread, text-answered      what is promised of a separation asked of a text
+-- Assumes nothing.
+use mathlib.Core.Path.{_≡_, refl, sym, subst, subst₂, _∙_}
+use mathlib.Core.Logic.{inl, inr}
+use mathlib.Core.List.{List, [], _∷_}
+use Prim.Native.Nat.{ℕ, _<_, _≤_}
+use native.Mathlib.Omega.{arith}
+use lib.IntN.{ℤ}
+use lib.ListN.{length, take, drop, length-map, length-take}
+use lib.Seq.{take-at}
+use Rattle.graphs.specs.Graph.{Graph, graphOf}
+use Rattle.graphs.specs.Refusal.{given, passed, Accepted, accepted}
+use Rattle.separation.specs.declared.Answer.{Answer}
+use Rattle.separation.specs.Promise.{Verdict, Answered, Nothing}
+use Rattle.text.specs.declared.Reading.{Reading}
+use Rattle.text.specs.Grammar.{Rule, Text}
+use Rattle.text.specs.Reading.{
+  events,
+  sourcesOf,
+  targetsOf,
+  leastsOf,
+  mostsOf,
+  graphOfRules,
+  ShortLists,
+  Beyond,
+  many-events,
+  many-rows,
+  short-list,
+  TextVerdict,
+  ReadOff,
+  ListsHold,
+  RulesWritten,
+}
+use Rattle.text.specs.Answers.{NoLists, TextAnswered}
+use Rattle.text.proofs.Refusals.{first-past}
+
+-- ---- from one verdict to the next
+
+module _ {Short : List Rule → Type 0} where
+  no-lists : {rs : List Rule} → Beyond NoLists rs → Beyond Short rs
+  no-lists (many-events l) = many-events l
+  no-lists (many-rows l) = many-rows l
+  no-lists (short-list x) = absurd x
+
+  -- where a list is too short only for more than 1,024 rows
+  too-many : ((rs : List Rule) → Short rs → 1024 < length rs) → {rs : List Rule} → Beyond Short rs → Beyond NoLists rs
+  too-many room (many-events l) = many-events l
+  too-many room (many-rows l) = many-rows l
+  too-many room {rs} (short-list x) = many-rows (room rs x)
+
+module _ {bs : List ℕ} {Short : List Rule → Type 0} where
+  pub refused-on : ((rs : List Rule) → Short rs → 1024 < length rs) → {Rest : ℕ → ℕ → Type 0} {j p : ℕ} → TextVerdict bs Short Accepted j p → (j ≡ 0 → ⊥) → TextVerdict bs NoLists Rest j p
+  refused-on room (given a) other = given a
+  refused-on room (passed bytes (given b)) other = passed bytes (given b)
+  refused-on room (passed bytes (passed rows (given a))) other =
+      passed bytes
+      (passed rows
+      (given (record { zero-place = a .zero-place; holds = record { rs = a .holds .rs; text = a .holds .text; beyond = too-many room (a .holds .beyond) } })))
+  refused-on room (passed bytes (passed rows (passed counts accepted))) other = absurd (other refl)
+
+  pub accepted-on : {Rest : ℕ → ℕ → Type 0} {i j p q : ℕ} → TextVerdict bs Short Accepted i q → i ≡ 0 → Rest j p → TextVerdict bs NoLists Rest j p
+  accepted-on v e r =
+      let (bytes, v8) = first-past v (λ h. let no : ⊥ = omega arith in no) in
+      let (rows, v1) = first-past v8 (λ h. let no : ⊥ = omega arith in no) in
+      let (counts, v0) = first-past v1 (λ h. let no : ⊥ = omega arith in no) in
+      passed bytes
+      (passed rows
+      (passed (λ q a. counts q (record { zero-place = a .zero-place; holds = record { rs = a .holds .rs; text = a .holds .text; beyond = no-lists (a .holds .beyond) } })) r))
+
+  pub counts-small : {i q : ℕ} → TextVerdict bs Short Accepted i q → i ≡ 0 → {rs : List Rule} → Text bs rs → (events rs ≤ 64) × (length rs ≤ 1024) × (Short rs → ⊥)
+  counts-small v e {rs} text =
+      let (bytes, v8) = first-past v (λ h. let no : ⊥ = omega arith in no) in
+      let (rows, v1) = first-past v8 (λ h. let no : ⊥ = omega arith in no) in
+      let (counts, v0) = first-past v1 (λ h. let no : ⊥ = omega arith in no) in
+      let beyond : Beyond Short rs → ⊥ = λ b. counts 0 (record { zero-place = refl; holds = record { rs = rs; text = text; beyond = b } }) in
+      let few : 64 < events rs → ⊥ = λ l. beyond (many-events l) in
+      let few-rows : 1024 < length rs → ⊥ = λ l. beyond (many-rows l) in
+      (omega arith, omega arith, λ x. beyond (short-list x))
+
+pub some-event : (rs : List Rule) → 1 ≤ events rs
+some-event [] = omega arith
+some-event (r ∷ rs) = omega arith
+
+-- ---- the lists after a reading
+
+pub record Handed (bs : List ℕ) (a : Reading) (ss ts : List ℕ) (ds Ds : List ℤ) : Type 0 where
+  pub rs : List Rule
+  pub text : Text bs rs
+  pub event-count : a .events ≡ events rs
+  pub some : 1 ≤ a .events
+  pub few : a .events ≤ 64
+  pub few-rows : a .rules ≤ 1024
+  pub graph : graphOf (a .events) (take (a .rules) ss) (take (a .rules) ts) (take (a .rules) ds) (take (a .rules) Ds) ≡ graphOfRules rs
+
+held-graph : {rs : List Rule} {ss₀ ts₀ : List ℕ} {ds₀ Ds₀ : List ℤ} {ss ts : List ℕ} {ds Ds : List ℤ} {n m : ℕ} → ListsHold rs ss₀ ts₀ ds₀ Ds₀ ss ts ds Ds → n ≡ events rs → m ≡ length rs → graphOf n (take m ss) (take m ts) (take m ds) (take m Ds) ≡ graphOfRules rs
+held-graph {rs} {ss₀} {ts₀} {ds₀} {Ds₀} {ss} {ts} {ds} {Ds} {n} {m} h e f =
+    let sources : take m ss ≡ sourcesOf rs = rw (h .sources-hold) (take-at (sourcesOf rs) (drop (length rs) ss₀) m (length-map rs (λ (r : Rule). r .source) ∙ sym f)) in
+    let targets : take m ts ≡ targetsOf rs = rw (h .targets-hold) (take-at (targetsOf rs) (drop (length rs) ts₀) m (length-map rs (λ (r : Rule). r .target) ∙ sym f)) in
+    let leasts : take m ds ≡ leastsOf rs = rw (h .leasts-hold) (take-at (leastsOf rs) (drop (length rs) ds₀) m (length-map rs (λ (r : Rule). r .least) ∙ sym f)) in
+    let mosts : take m Ds ≡ mostsOf rs = rw (h .mosts-hold) (take-at (mostsOf rs) (drop (length rs) Ds₀) m (length-map rs (λ (r : Rule). r .most) ∙ sym f)) in
+    λ i. graphOf (e i) (sources i) (targets i) (leasts i) (mosts i)
+
+pub few-taken : {m b : ℕ} (xs : List ℕ) → m ≤ b → length (take m xs) ≤ b
+few-taken {m} {b} xs l = omega (arith, length-take m xs)
+
+module _ {bs : List ℕ} {a : Reading} {ss₀ ts₀ : List ℕ} {ds₀ Ds₀ : List ℤ} {ss ts : List ℕ} {ds Ds : List ℤ} (w : RulesWritten bs a ss₀ ts₀ ds₀ Ds₀ ss ts ds Ds) (r : ReadOff bs (ShortLists ss₀ ts₀ ds₀ Ds₀) a) where
+  pub handed : a .refusal ≡ 0 → Handed bs a ss ts ds Ds
+  handed e =
+      let (rs, text, n, m) = r .found e in
+      let (few, few-rows, _) = counts-small (r .verdict) e text in
+      record {
+        rs = rs;
+        text = text;
+        event-count = n;
+        some = omega (arith, some-event rs);
+        few = omega arith;
+        few-rows = omega arith;
+        graph = held-graph (w .written e rs text) n m;
+      }
+
+  module _ (sources-long : length ss₀ ≡ 1024) (targets-long : length ts₀ ≡ 1024) (leasts-long : length ds₀ ≡ 1024) (mosts-long : length Ds₀ ≡ 1024) where
+    enough : (rs : List Rule) → ShortLists ss₀ ts₀ ds₀ Ds₀ rs → 1024 < length rs
+    enough rs (inl l) = omega arith
+    enough rs (inr (inl l)) = omega arith
+    enough rs (inr (inr (inl l))) = omega arith
+    enough rs (inr (inr (inr l))) = omega arith
+
+    pub read-refused : {Rest : ℕ → ℕ → Type 0} → (a .refusal ≡ 0 → ⊥) → TextVerdict bs NoLists Rest (a .refusal) (a .place)
+    read-refused n = refused-on enough (r .verdict) n
+
+    -- ---- the separation of two events
+
+    pub text-unread : {s t : ℕ} {b : Answer} → (a .refusal ≡ 0 → ⊥) → b .refusal ≡ a .refusal → b .place ≡ a .place → Nothing b → TextAnswered bs s t b
+    text-unread {s} {t} {b} n e f nothing =
+        record {
+          verdict = subst₂ (λ (j p : ℕ). TextVerdict bs NoLists (λ (j p : ℕ). (rs : List Rule) × Text bs rs × Verdict (graphOfRules rs) s t ⊥ j p) j p) (sym e) (sym f) (read-refused n);
+          found = λ h. absurd (n (sym e ∙ h));
+          nothing = λ h. nothing;
+        }
+
+  pub text-answered : {s t : ℕ} {b : Answer} → a .refusal ≡ 0 → Answered (graphOf (a .events) (take (a .rules) ss) (take (a .rules) ts) (take (a .rules) ds) (take (a .rules) Ds)) s t ⊥ b → TextAnswered bs s t b
+  text-answered {s} {t} {b} e x =
+      let h = handed e in
+      let y : Answered (graphOfRules (h .rs)) s t ⊥ b = subst (λ (g : Graph). Answered g s t ⊥ b) (h .graph) x in
+      record {
+        verdict = accepted-on (r .verdict) e (h .rs, h .text, y .verdict);
+        found = λ z. (h .rs, h .text, y .found z);
+        nothing = y .nothing;
+      }

@@ -1,0 +1,24 @@
+-- The laws of the text form.
+pub mod Cutting
+pub mod Taking
+pub mod FieldLaws
+pub mod PartLaws
+pub mod RowLaws
+pub mod WholeRow
+pub mod Texts
+pub mod Unique
+pub mod Beginnings
+pub mod Progress
+pub mod Writing
+pub mod Verdicts
+pub mod Appends
+pub mod Decimal
+pub mod WrittenNumbers
+pub mod WrittenLines
+pub mod PairOrder
+pub mod Refusals
+pub mod Tabling
+pub mod Handed
+pub mod Places
+pub mod PairOutput
+pub mod Answered

@@ -1,0 +1,104 @@
+-- What the pair program writes. Document 01, section "Text form and the pair program"; demands 1 and 2.
+--     Pair, pairs n         == the pairs with from < to < n, ordered by from and then to
+--     PairLine g p bs       == bs is the line of pair p: the two event numbers, the least and the greatest value of t(to) − t(from)
+--     Lines g ps bs         == bs are the lines of the pairs ps
+--     pairHeader            == `from,to,least,most`
+--     RefusedLine k p bs    == bs is the line `refused`, number k, place p
+--     GraphVerdict g        == the refusals of a graph alone, as the analysis has them
+--     PairsVerdict bs       == the refusals of the pair program
+--     Output bs out         == out is what the pair program writes for the text bs
+--     PairsWritten …        == out, which held out₀, holds the output in its first k places; or it is too short, k is 0 and nothing is written
+-- Every line ends in CR LF, `ending`. Assumes nothing.
+use mathlib.Core.Path.{_≡_}
+use mathlib.Core.List.{List, [], _∷_, _++_, map}
+use Prim.Native.Nat.{ℕ, zero, suc, _-_, _<_, _≤_}
+use lib.IntN.{ℤ}
+use lib.ListN.{length, drop}
+use Rattle.graphs.specs.Graph.{Graph}
+use Rattle.graphs.specs.Refusal.{First, AtZero, Lowest, CountsOutside, UnknownEvent, DelayOutside}
+use Rattle.executions.specs.Separation.{Separation, LeastSeparation}
+use Rattle.separation.specs.Promise.{PathVerdict}
+use Rattle.text.specs.Numbers.{Natural, Integer}
+use Rattle.text.specs.Grammar.{Rule, Text}
+use Rattle.text.specs.Reading.{TextVerdict, events, graphOfRules}
+use Rattle.text.specs.Answers.{NoLists}
+
+pub record Pair : Type 0 where
+  pub from : ℕ
+  pub to : ℕ
+
+abbrev pub pairOf : ℕ → ℕ → Pair
+pairOf s t = record { from = s; to = t }
+
+-- k numbers from a on
+abbrev pub upFrom : ℕ → ℕ → List ℕ
+upFrom a zero = []
+upFrom a (suc k) = a ∷ upFrom (suc a) k
+
+-- the pairs (s, s + 1) to (s, n − 1)
+abbrev pub pairsFrom : ℕ → ℕ → List Pair
+pairsFrom n s = map (pairOf s) (upFrom (suc s) (n - suc s))
+
+-- those of each of these s, one s after the other
+abbrev pub pairsOfAll : ℕ → List ℕ → List Pair
+pairsOfAll n [] = []
+pairsOfAll n (s ∷ ss) = pairsFrom n s ++ pairsOfAll n ss
+
+-- "each pair with from < to, ordered by from and then to"
+abbrev pub pairs : ℕ → List Pair
+pairs n = pairsOfAll n (upFrom 0 n)
+
+abbrev pub ending : List ℕ
+ending = 13 ∷ 10 ∷ []
+
+-- "the two event numbers, the least and the greatest value of t(to) − t(from)"
+pub record PairLine (g : Graph) (p : Pair) (bs : List ℕ) : Type 0 where
+  pub least : ℤ
+  pub most : ℤ
+  pub is-least : LeastSeparation g (p .from) (p .to) least
+  pub is-most : Separation g (p .from) (p .to) most
+  pub from-field : List ℕ
+  pub to-field : List ℕ
+  pub least-field : List ℕ
+  pub most-field : List ℕ
+  pub from-written : Natural from-field (p .from)
+  pub to-written : Natural to-field (p .to)
+  pub least-written : Integer least-field least
+  pub most-written : Integer most-field most
+  pub bytes : bs ≡ from-field ++ (44 ∷ (to-field ++ (44 ∷ (least-field ++ (44 ∷ (most-field ++ ending))))))
+
+pub data Lines (g : Graph) : List Pair → List ℕ → Type 0 where
+  none : Lines g [] []
+  more : {p : Pair} {ps : List Pair} {bs : List ℕ} (line rest : List ℕ) → bs ≡ line ++ rest → PairLine g p line → Lines g ps rest → Lines g (p ∷ ps) bs
+
+-- f r o m , t o , l e a s t , m o s t
+abbrev pub pairHeader : List ℕ
+pairHeader = 102 ∷ 114 ∷ 111 ∷ 109 ∷ 44 ∷ 116 ∷ 111 ∷ 44 ∷ 108 ∷ 101 ∷ 97 ∷ 115 ∷ 116 ∷ 44 ∷ 109 ∷ 111 ∷ 115 ∷ 116 ∷ []
+
+-- r e f u s e d
+abbrev pub refusedWord : List ℕ
+refusedWord = 114 ∷ 101 ∷ 102 ∷ 117 ∷ 115 ∷ 101 ∷ 100 ∷ []
+
+-- "one line only: `refused`, number, place"
+pub record RefusedLine (k p : ℕ) (bs : List ℕ) : Type 0 where
+  pub number-field : List ℕ
+  pub place-field : List ℕ
+  pub number-written : Natural number-field k
+  pub place-written : Natural place-field p
+  pub bytes : bs ≡ refusedWord ++ (44 ∷ (number-field ++ (44 ∷ (place-field ++ ending))))
+
+-- "then as the analysis": of a graph with no s and t, there is no refusal 4
+abbrev pub GraphVerdict : Graph → ℕ → ℕ → Type 0
+GraphVerdict g = First 1 (AtZero (CountsOutside g)) (First 2 (Lowest (UnknownEvent g)) (First 3 (Lowest (DelayOutside g)) (PathVerdict g)))
+
+abbrev pub PairsVerdict : List ℕ → ℕ → ℕ → Type 0
+PairsVerdict bs = TextVerdict bs NoLists (λ (j p : ℕ). (rs : List Rule) × Text bs rs × GraphVerdict (graphOfRules rs) j p)
+
+pub data Output (bs out : List ℕ) : Type 0 where
+  table : (rs : List Rule) (lines : List ℕ) → PairsVerdict bs 0 0 → Text bs rs → Lines (graphOfRules rs) (pairs (events rs)) lines → out ≡ pairHeader ++ (ending ++ lines) → Output bs out
+  refused : (k p : ℕ) → 1 ≤ k → PairsVerdict bs k p → RefusedLine k p out → Output bs out
+
+-- "a lent output list is too short": 131,072 places are enough for every table
+pub record PairsWritten (bs out₀ : List ℕ) (k : ℕ) (out : List ℕ) : Type 0 where
+  pub written : 131072 ≤ length out₀ → (bytes : List ℕ) × Output bs bytes × (k ≡ length bytes) × (out ≡ bytes ++ drop k out₀)
+  pub nothing : length out₀ < 131072 → (k ≡ 0) × (out ≡ out₀)

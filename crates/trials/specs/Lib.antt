@@ -1,2 +1,0 @@
--- What the functions of the program say to each other.
-pub mod Shapes
