@@ -1,0 +1,253 @@
+//! 01's figures P1 to P11 and its limits, with the numbers that 01 gives: of the library, and of the plain Rust that it is compared with elsewhere.
+
+use crankforest_tests::library::{self, lent_list, Answer, Graph, Rules, Templates, Unfolded, Written};
+use crankforest_tests::plain;
+
+type Schedule = fn(usize, Rules, usize, usize, &mut [i64], &mut [i64]) -> Answer;
+
+/// The four forms of one implementation.
+struct Forms {
+    exact: fn(usize, Rules, usize, usize) -> Answer,
+    schedule: Schedule,
+    coarse: fn(usize, Rules, usize, usize, usize) -> Answer,
+    unfold: fn(usize, usize, Templates, &mut Written) -> Unfolded,
+}
+
+const BOTH: [Forms; 2] = [
+    Forms { exact: library::exact, schedule: library::schedule, coarse: library::coarse, unfold: library::unfold },
+    Forms { exact: plain::exact, schedule: plain::schedule, coarse: plain::coarse, unfold: plain::unfold },
+];
+
+fn row() -> Graph {
+    Graph::new(4, &[(0, 1, 0, 100), (1, 2, 1, 2), (1, 3, 3, 7)])
+}
+
+fn fork() -> Graph {
+    Graph::new(4, &[(0, 1, 2, 5), (0, 2, 1, 3), (1, 3, 0, 0), (2, 3, 0, 0)])
+}
+
+fn chain(n: usize, least: i64, most: i64) -> Graph {
+    let mut graph = Graph::new(n, &[]);
+    for v in 1..n {
+        graph.add(v - 1, v, least, most);
+    }
+    graph
+}
+
+#[test]
+fn p1_one_event() {
+    for forms in BOTH {
+        let graph = Graph::new(1, &[]);
+        assert_eq!((forms.exact)(1, graph.rules(), 0, 0), Answer::found(0, 0, 0));
+        let (mut times, mut delays) = (lent_list(2), lent_list(1));
+        assert_eq!((forms.schedule)(1, graph.rules(), 0, 0, &mut times, &mut delays), Answer::found(0, 0, 0));
+        assert_eq!(times, [0, lent_list(2)[1]]);
+        assert_eq!(delays, lent_list(1));
+    }
+}
+
+#[test]
+fn p2_row_with_its_schedule() {
+    for forms in BOTH {
+        let (graph, mut times, mut delays) = (row(), lent_list(6), lent_list(4));
+        let answer = (forms.schedule)(4, graph.rules(), 2, 3, &mut times, &mut delays);
+        assert_eq!(answer, Answer::found(6, 2, 2));
+        assert_eq!(times[..4], [0, 0, 1, 7]);
+        assert_eq!(delays[..3], [0, 1, 7]);
+        assert_eq!(times[4..], lent_list(6)[4..]);
+        assert_eq!(delays[3..], lent_list(4)[3..]);
+        assert_eq!((forms.exact)(4, graph.rules(), 2, 3), Answer::found(6, 2, 2));
+        assert_eq!((forms.exact)(4, graph.rules(), 2, 2), Answer::found(0, 2, 2));
+    }
+}
+
+#[test]
+fn p3_p4_p5_fork() {
+    for forms in BOTH {
+        let graph = fork();
+        assert_eq!((forms.exact)(4, graph.rules(), 1, 3), Answer::found(1, 1, 2));
+        assert_eq!((forms.exact)(4, graph.rules(), 2, 3), Answer::found(4, 1, 2));
+        assert_eq!((forms.exact)(4, graph.rules(), 3, 1), Answer::found(0, 2, 1));
+    }
+}
+
+#[test]
+fn p6_p7_parallel_rules() {
+    for forms in BOTH {
+        let graph = Graph::new(2, &[(0, 1, 1, 2), (0, 1, 0, 5)]);
+        assert_eq!((forms.exact)(2, graph.rules(), 0, 1), Answer::found(5, 0, 1));
+        assert_eq!((forms.exact)(2, graph.rules(), 1, 0), Answer::found(-1, 1, 0));
+    }
+}
+
+#[test]
+fn p8_p9_p10_coarse() {
+    for forms in BOTH {
+        let graph = Graph::new(2, &[(0, 1, -3, -1)]);
+        assert_eq!((forms.exact)(2, graph.rules(), 0, 1), Answer::found(-1, 0, 1));
+        assert_eq!((forms.coarse)(2, graph.rules(), 0, 1, 2), Answer::found(0, 0, 1));
+        assert_eq!((forms.exact)(2, graph.rules(), 1, 0), Answer::found(3, 1, 0));
+        assert_eq!((forms.coarse)(2, graph.rules(), 1, 0, 2), Answer::found(4, 1, 0));
+        assert_eq!((forms.coarse)(4, row().rules(), 2, 3, 4), Answer::found(8, 2, 2));
+    }
+}
+
+#[test]
+fn p11_figure_1_of_the_report() {
+    for forms in BOTH {
+        let process = Graph::new(2, &[(0, 0, 4, 10), (0, 1, 1, 1), (1, 0, 1, 1), (1, 1, 5, 20)]);
+        let templates = Templates { rules: process.rules(), marks: &[1, 0, 1, 1] };
+        for (k, separation) in [1, 17, 19].into_iter().enumerate() {
+            let mut out = Written::lent([12; 4]);
+            assert_eq!((forms.unfold)(2, 3, templates, &mut out), Unfolded::found(7, 12));
+            let answer = (forms.exact)(7, out.as_rules(12), 1 + 2 * k, 2 + 2 * k);
+            assert_eq!((answer.refusal, answer.separation), (0, separation), "occurrence {}", k);
+        }
+    }
+}
+
+#[test]
+fn figure_1_unfolded_twice_is_this() {
+    for forms in BOTH {
+        let process = Graph::new(2, &[(0, 0, 4, 10), (0, 1, 1, 1), (1, 0, 1, 1), (1, 1, 5, 20)]);
+        let templates = Templates { rules: process.rules(), marks: &[1, 0, 1, 1] };
+        let mut out = Written::lent([9, 8, 10, 8]);
+        assert_eq!((forms.unfold)(2, 2, templates, &mut out), Unfolded::found(5, 8));
+        let held = Written::lent([9, 8, 10, 8]);
+        assert_eq!(out.sources[..8], [0, 1, 0, 0, 1, 3, 2, 2]);
+        assert_eq!(out.targets[..8], [1, 2, 1, 2, 3, 4, 3, 4]);
+        assert_eq!(out.leasts[..8], [0, 1, 0, 0, 4, 1, 1, 5]);
+        assert_eq!(out.mosts[..8], [0, 1, 0, 0, 10, 1, 1, 20]);
+        assert_eq!((&out.sources[8..], &out.targets[8..]), (&held.sources[8..], &held.targets[8..]));
+        assert_eq!((&out.leasts[8..], &out.mosts[8..]), (&held.leasts[8..], &held.mosts[8..]));
+    }
+}
+
+#[test]
+fn limits_of_the_analysis() {
+    for forms in BOTH {
+        let exact = |graph: &Graph, s, t| (forms.exact)(graph.events, graph.rules(), s, t);
+        assert_eq!(exact(&chain(1_024, 1, 2), 0, 1_023), Answer::found(2_046, 0, 1_023));
+        assert_eq!(exact(&chain(1_025, 1, 2), 0, 1), Answer::refused(1, 0));
+        assert_eq!(exact(&Graph::new(0, &[]), 0, 0), Answer::refused(1, 0));
+        assert_eq!(exact(&Graph::new(usize::MAX, &[]), 0, 0), Answer::refused(1, 0));
+        assert_eq!(exact(&Graph::new(2, &[(0, 1, 0, 3); 4_096]), 0, 1), Answer::found(3, 0, 1));
+        assert_eq!(exact(&Graph::new(2, &[(0, 1, 0, 3); 4_097]), 0, 1), Answer::refused(1, 0));
+        assert_eq!(exact(&Graph::new(2, &[(0, 1, -1_000_000, 1_000_000)]), 0, 1), Answer::found(1_000_000, 0, 1));
+        assert_eq!(exact(&Graph::new(2, &[(0, 1, 0, 1_000_001)]), 0, 1), Answer::refused(3, 0));
+        assert_eq!(exact(&Graph::new(2, &[(0, 1, -1_000_001, 0)]), 0, 1), Answer::refused(3, 0));
+        assert_eq!(exact(&Graph::new(2, &[(0, 1, 0, 1), (0, 1, 2, 1)]), 0, 1), Answer::refused(3, 1));
+        assert_eq!(exact(&Graph::new(2, &[(0, 1, i64::MIN, i64::MAX)]), 0, 1), Answer::refused(3, 0));
+        assert_eq!(exact(&Graph::new(2, &[(0, 1, 1 << 32, 1 << 32)]), 0, 1), Answer::refused(3, 0));
+    }
+}
+
+#[test]
+fn two_long_chains_reach_the_greatest_answer() {
+    let mut graph = Graph::new(1_024, &[]);
+    for v in 1..512 {
+        graph.add(v - 1, v, -1_000_000, -1_000_000);
+    }
+    for v in 512..1_024 {
+        graph.add(if v == 512 { 0 } else { v - 1 }, v, 1_000_000, 1_000_000);
+    }
+    for forms in BOTH {
+        let answer = (forms.exact)(1_024, graph.rules(), 511, 1_023);
+        assert_eq!(answer, Answer::found(1_023_000_000, 511, 512));
+        let answer = (forms.exact)(1_024, graph.rules(), 1_023, 511);
+        assert_eq!(answer, Answer::found(-1_023_000_000, 512, 511));
+    }
+}
+
+#[test]
+fn limits_of_q() {
+    for forms in BOTH {
+        let graph = Graph::new(2, &[(0, 1, 1_000_000, 1_000_000)]);
+        let coarse = |q| (forms.coarse)(2, graph.rules(), 0, 1, q);
+        assert_eq!(coarse(1), Answer::found(1_000_000, 0, 1));
+        assert_eq!(coarse(999), Answer::found(1_000_998, 0, 1));
+        assert_eq!(coarse(1_000), Answer::found(1_000_000, 0, 1));
+        for q in [0, 1_001, (1 << 32) + 1, usize::MAX] {
+            assert_eq!(coarse(q), Answer::refused(9, q));
+        }
+    }
+}
+
+#[test]
+fn order_of_the_refusals() {
+    for forms in BOTH {
+        let exact = |graph: &Graph, s, t| (forms.exact)(graph.events, graph.rules(), s, t);
+        let coarse = |graph: &Graph, s, t, q| (forms.coarse)(graph.events, graph.rules(), s, t, q);
+        // numbers before rules: 2 in rule 1 comes before 3 in rule 0
+        assert_eq!(exact(&Graph::new(2, &[(0, 1, 2, 1), (0, 2, 0, 0)]), 9, 9), Answer::refused(2, 1));
+        assert_eq!(exact(&Graph::new(2, &[(0, 1, 0, 0), (1 << 32, 1, 0, 0)]), 0, 0), Answer::refused(2, 1));
+        assert_eq!(exact(&Graph::new(2, &[(1, 1, 2, 1)]), 9, 9), Answer::refused(3, 0));
+        assert_eq!(exact(&Graph::new(2, &[(1, 1, 1, 1)]), 2, 9), Answer::refused(4, 0));
+        assert_eq!(exact(&Graph::new(2, &[(1, 1, 1, 1)]), 0, 2), Answer::refused(4, 1));
+        assert_eq!(coarse(&Graph::new(2, &[(1, 1, 1, 1)]), 0, 2, 0), Answer::refused(4, 1));
+        assert_eq!(coarse(&Graph::new(2, &[(1, 1, 1, 1)]), 0, 1, 0), Answer::refused(9, 0));
+        assert_eq!(coarse(&Graph::new(2, &[(1, 1, 1, 1)]), 0, 1, 5), Answer::refused(5, 0));
+        // a cycle and an unreached event
+        assert_eq!(exact(&Graph::new(3, &[(1, 1, 0, 0)]), 0, 0), Answer::refused(5, 0));
+        assert_eq!(exact(&Graph::new(2, &[(1, 0, 0, 0)]), 0, 0), Answer::refused(6, 1));
+        assert_eq!(exact(&Graph::new(3, &[(0, 1, 0, 0), (2, 1, 0, 0)]), 0, 0), Answer::refused(6, 2));
+        assert_eq!(exact(&Graph::new(1_024, &[]), 0, 0), Answer::refused(6, 1));
+    }
+}
+
+#[test]
+fn lent_lists_are_held_to_their_needs() {
+    for forms in BOTH {
+        let graph = row();
+        for (times_length, delays_length) in [(3, 3), (4, 2), (0, 0)] {
+            let (mut times, mut delays) = (lent_list(times_length), lent_list(delays_length));
+            let answer = (forms.schedule)(4, graph.rules(), 2, 3, &mut times, &mut delays);
+            assert_eq!(answer, Answer::refused(1, 0));
+            assert_eq!((times, delays), (lent_list(times_length), lent_list(delays_length)));
+        }
+        // a short list comes before an unknown event
+        let unknown = Graph::new(1, &[(0, 7, 0, 0)]);
+        let answer = (forms.schedule)(1, unknown.rules(), 0, 0, &mut lent_list(1), &mut []);
+        assert_eq!(answer, Answer::refused(1, 0));
+        // every event is scheduled, also one with no path to s
+        let star = Graph::new(3, &[(0, 1, 0, 5), (0, 2, 0, 5)]);
+        let (mut times, mut delays) = (lent_list(3), lent_list(2));
+        (forms.schedule)(3, star.rules(), 1, 1, &mut times, &mut delays);
+        assert_eq!((times, delays), (vec![0, 0, 5], vec![0, 5]));
+    }
+}
+
+#[test]
+fn limits_of_the_unfolding() {
+    let one = Graph::new(31, &[(0, 30, 1, 2)]);
+    let crossed = Graph::new(2, &[(0, 1, 2, 1), (0, 2, 0, 0)]);
+    let four = Graph::new(1, &[(0, 0, 0, 0); 4]);
+    for forms in BOTH {
+        let unfold = |p, copies, graph: &Graph, marks: &[usize], room: usize| {
+            let mut out = Written::lent([room; 4]);
+            let answer = (forms.unfold)(p, copies, Templates { rules: graph.rules(), marks }, &mut out);
+            (answer, out == Written::lent([room; 4]))
+        };
+        let refused = |number, place| (Unfolded::refused(number, place), true);
+        assert_eq!(unfold(31, 33, &one, &[1], 33), (Unfolded::found(1_024, 33), false));
+        assert_eq!(unfold(31, 34, &one, &[1], 34), refused(1, 0));
+        assert_eq!(unfold(31, 33, &one, &[1], 32), refused(1, 0));
+        assert_eq!(unfold(31, 33, &one, &[], 33), refused(1, 0));
+        assert_eq!(unfold(0, 1, &one, &[1], 33), refused(1, 0));
+        assert_eq!(unfold(31, 0, &one, &[1], 33), refused(1, 0));
+        assert_eq!(unfold(1 << 63, 2, &one, &[1], 33), refused(1, 0));
+        assert_eq!(unfold(2, 1 << 63, &one, &[1], 33), refused(1, 0));
+        assert_eq!(unfold(1, 1 << 62, &four, &[0; 4], 33), refused(1, 0));
+        assert_eq!(unfold(1, 1_023, &four, &[0; 4], 5_000), (Unfolded::found(1_024, 4_092), false));
+        assert_eq!(unfold(30, 33, &one, &[2], 33), refused(2, 0));
+        assert_eq!(unfold(2, 1, &crossed, &[5, 5], 2), refused(2, 1));
+        assert_eq!(unfold(3, 1, &crossed, &[5, 5], 2), refused(3, 0));
+        assert_eq!(unfold(31, 33, &one, &[2], 33), refused(7, 0));
+        assert_eq!(unfold(31, 33, &one, &[(1 << 32) + 1], 33), refused(7, 0));
+        assert_eq!(unfold(3, 2, &Graph::new(3, &[]), &[], 0), (Unfolded::found(7, 0), true));
+        let many = Graph::new(2, &vec![(0, 1, 0, 0); 1_366]);
+        assert_eq!(unfold(2, 3, &many, &[0; 1_366], 5_000), refused(1, 0));
+        let fewer = Graph::new(2, &vec![(0, 1, 0, 0); 1_365]);
+        assert_eq!(unfold(2, 3, &fewer, &[0; 1_365], 5_000), (Unfolded::found(7, 4_095), false));
+    }
+}
