@@ -43,6 +43,7 @@ use Rattle.text.specs.Answers.{NoLists, TextAnswered, entryNumber, Enter
 use Rattle.text.specs.Output.{ending, pairs, Lines, pairHeader, GraphVerdict, PairsVerdict, Output, table, refused, RefusedLine, PairsWritten}
 use Rattle.text.proofs.Refusals.{first-both}
 use Rattle.text.proofs.Texts.{text-unique, broken-unique}
+use Rattle.text.proofs.Unique.{verdict-unique}
 use Rattle.text.proofs.PairOrder.{lines-unique, refused-line-unique}
 
 -- ---- the answer to a question about a text
@@ -110,8 +111,7 @@ module _ {bs : List ℕ} where
       graph-verdict-unique u (subst (λ (rs : List Rule). GraphVerdict (graphOfRules rs) j q) (text-unique text′ text) u′)
 
   pub pairs-verdict-unique : {i p j q : ℕ} → PairsVerdict bs i p → PairsVerdict bs j q → (i ≡ j) × (p ≡ q)
-  pairs-verdict-unique =
-      first-unique (λ p q. atZero-unique) (λ i p j q. first-unique (λ p q. broken-unique) (λ i p j q. first-unique (λ p q. atZero-unique) one-graph))
+  pairs-verdict-unique = verdict-unique one-graph
 
   pub output-unique : {out out′ : List ℕ} → Output bs out → Output bs out′ → out ≡ out′
   output-unique (table rs lines v text are e) (table rs′ lines′ v′ text′ are′ e′) =
