@@ -26,9 +26,9 @@ use Rattle.graphs.specs.Limits.{EndsKept, DelaysKept, Sized}
 use Rattle.graphs.specs.Refusal.{First, given, passed, accepted, Lowest}
 use Rattle.graphs.proofs.Below.{below-next}
 use Rattle.graphs.proofs.Unique.{stable, known-ends, ends-kept, inside-delays, delays-kept, counts-not-outside}
+use Rattle.faults.specs.Faults.{InsideDelays}
 use Rattle.separation.specs.Promise as analysis
 use Rattle.separation.specs.Promise.{source-missing, target-missing}
-use Rattle.separation.specs.Checks.{InsideDelays}
 use Rattle.processes.specs.declared.Unfolded.{Unfolded}
 use Rattle.processes.specs.Checks.{CountsKept}
 use Rattle.processes.specs.Process.{ProcessGraph, templates, source, target, mark, Node, number, Instance, together, onward, start}

@@ -8,33 +8,27 @@
 -- Assumes nothing.
 use mathlib.Core.Path.{_≡_, refl, sym, subst₂}
 use mathlib.Core.Logic.{_⊎_, inl, inr, ⊎-elim}
-use Prim.Native.Nat.{ℕ, _+_, _*_, _<_, _≤_}
+use Prim.Native.Nat.{ℕ, _+_, _*_, _<_, _≤_, min}
 use native.Mathlib.Omega.{arith}
 use mathlib.Core.List.{List}
 use lib.IntN.{ℤ}
 use lib.ListN.{length}
-use Rattle.graphs.specs.Graph.{graphOf}
-use Rattle.graphs.specs.Limits.{DelaysKept}
-use Rattle.graphs.specs.Refusal.{First, given, passed, accepted, AtZero, Lowest, OutsideDelays}
-use Rattle.graphs.proofs.Unique.{delays-kept}
-use Rattle.separation.specs.Checks.{LowestOr, InsideDelays}
-use Rattle.separation.proofs.Searches.{lowest-bad}
+use Rattle.graphs.specs.Refusal.{First, given, passed, accepted, AtZero, Lowest}
+use Rattle.faults.specs.Faults.{LowestOr, EndsKnown, EndUnknown, InsideDelays, DelaysInside, DelaysOutside}
+use Rattle.faults.proofs.Lowest.{lowest-bad, as-long}
+use Rattle.faults.proofs.Unique as faults
 use Rattle.processes.specs.declared.Unfolded.{Unfolded}
 use Rattle.processes.specs.Process.{ProcessGraph, templates, source, target, least, most, mark}
 use Rattle.processes.specs.Unfolding.{CountsOutside, ShortLists, short-sources, short-targets, short-leasts, short-mosts, UnknownEvent, DelayOutside, MarkOutside, Verdict, Answered}
 use Rattle.processes.proofs.Handed.{counts-inside}
-use Rattle.processes.specs.Checks.{CountsKept, EventsKnown, EventUnknown, MarkKept, MarkBroken, ProcessKept, ProcessChecked}
+use Rattle.processes.specs.Checks.{CountsKept, MarkKept, MarkBroken, ProcessKept, ProcessChecked}
 
 module _ {g : ProcessGraph} where
-  pub known-not-unknown : (j : ℕ) → EventsKnown (g .events) (g .sources) (g .targets) j → UnknownEvent g j → ⊥
-  known-not-unknown j h u = ⊎-elim (λ l. omega arith) (λ l. omega arith) (u .unknown)
+  pub known-not-unknown : (j : ℕ) → EndsKnown (g .events) (g .sources) (g .targets) j → UnknownEvent g j → ⊥
+  known-not-unknown j h u = faults.known-not-unknown h (u .unknown)
 
   pub inside-not-outside : (j : ℕ) → InsideDelays (least g j) (most g j) → DelayOutside g j → ⊥
-  inside-not-outside j h o =
-      delays-kept
-      {g = graphOf (g .events) (g .sources) (g .targets) (g .leasts) (g .mosts)}
-      (record { least-within = h .least-within; most-within = h .most-within; ordered = h .ordered })
-      (record { is-rule = o .is-template; outside = o .outside })
+  inside-not-outside j h o = faults.inside-not-outside h (o .outside)
 
   pub kept-not-broken : (j : ℕ) → MarkKept (g .marks) j → MarkOutside g j → ⊥
   kept-not-broken j h o = ⊎-elim (o .not-zero) (o .not-one) h
@@ -42,17 +36,20 @@ module _ {g : ProcessGraph} where
 -- ---- the searches
 
 module _ {g : ProcessGraph} {r : ℕ} where
-  pub lowest-unknown : LowestOr (length (g .sources)) (EventsKnown (g .events) (g .sources) (g .targets)) (EventUnknown (g .events) (g .sources) (g .targets)) r →
+  pub lowest-unknown : length (g .targets) ≡ templates g →
+      LowestOr (min (length (g .sources)) (length (g .targets))) (EndsKnown (g .events) (g .sources) (g .targets)) (EndUnknown (g .events) (g .sources) (g .targets)) r →
       r < length (g .sources) →
       Lowest (UnknownEvent g) r
-  lowest-unknown = lowest-bad (UnknownEvent g) (λ j _ known. known-not-unknown j known) (λ j l unknown. record { is-template = l; unknown = unknown })
+  lowest-unknown e h =
+      lowest-bad (UnknownEvent g) (λ j _ known. known-not-unknown j known) (λ j l unknown. record { is-template = l; unknown = unknown }) (as-long e h)
 
-  pub lowest-outside : length (g .leasts) ≡ templates g →
-      LowestOr (length (g .leasts)) (λ j. InsideDelays (least g j) (most g j)) (λ j. OutsideDelays (least g j) (most g j)) r →
+  pub lowest-outside : length (g .mosts) ≡ length (g .leasts) →
+      length (g .leasts) ≡ templates g →
+      LowestOr (min (length (g .leasts)) (length (g .mosts))) (DelaysInside (g .leasts) (g .mosts)) (DelaysOutside (g .leasts) (g .mosts)) r →
       r < length (g .leasts) →
       Lowest (DelayOutside g) r
-  lowest-outside e =
-      lowest-bad (DelayOutside g) (λ j _ inside. inside-not-outside j inside) (λ j l outside. record { is-template = omega arith; outside = outside })
+  lowest-outside e f h =
+      lowest-bad (DelayOutside g) (λ j _ inside. inside-not-outside j inside) (λ j l outside. record { is-template = omega arith; outside = outside }) (as-long e h)
 
   pub lowest-broken : length (g .marks) ≡ templates g →
       LowestOr (length (g .marks)) (MarkKept (g .marks)) (MarkBroken (g .marks)) r →
@@ -77,7 +74,7 @@ module _ {g : ProcessGraph} {K n : ℕ} where
     pub process-2 : {p : ℕ} → Lowest (UnknownEvent g) p → Verdict g K (n < templates g * K) 2 p
     process-2 h = past-1 (given h)
 
-    module _ (known : (j : ℕ) → j < templates g → EventsKnown (g .events) (g .sources) (g .targets) j) where
+    module _ (known : (j : ℕ) → j < templates g → EndsKnown (g .events) (g .sources) (g .targets) j) where
       past-2 : {Rest : ℕ → ℕ → Type 0} {j p : ℕ} → Rest j p → First 2 (Lowest (UnknownEvent g)) Rest j p
       past-2 r = passed (λ p a. known-not-unknown p (known p (a .holds .is-template)) (a .holds)) r
 

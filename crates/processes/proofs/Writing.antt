@@ -20,10 +20,11 @@ use lib.ListN.{length, getD, take, drop, set, length-set}
 use lib.Seq.{getD-set-same, getD-set-other, drop-set-lt, getD-take, length-take-le}
 use Rattle.graphs.specs.Graph as Event
 use Rattle.graphs.specs.Graph.{Graph, graphOf}
+use Rattle.faults.specs.Faults.{EndsKnown}
 use Rattle.processes.specs.declared.Unfolded.{Unfolded}
 use Rattle.processes.specs.Process.{ProcessGraph, templates, source, target, least, most, mark, occurrence, Node, root, at, Instance, together, onward, start}
 use Rattle.processes.specs.Unfolding.{RuleAt, Unfolds, Written}
-use Rattle.processes.specs.Checks.{CountsKept, EventsKnown, MarkKept, ProcessKept}
+use Rattle.processes.specs.Checks.{CountsKept, MarkKept, ProcessKept}
 use Rattle.processes.specs.Writing.{SourceAt, DelayAt, RuleWritten, RulesWritten}
 use Rattle.processes.proofs.Products.{many, some-factor, copy-below, rule-below, same-copy}
 
@@ -112,7 +113,7 @@ pub turn-kept : {g : ProcessGraph} {K n : ℕ} {ss₀ ts₀ : List ℕ} {ds₀ D
 turn-kept {g} {K} {i = i} {k = k} {j = j} kept w l =
     let lj : j < templates g = w .template (some-factor (templates g) K i l) in
     let lk : k < K = copy-below (templates g) K k j (omega arith) in
-    let known : EventsKnown (g .events) (g .sources) (g .targets) j = kept .known j lj in
+    let known : EndsKnown (g .events) (g .sources) (g .targets) j = kept .known j lj in
     let counts : CountsKept g K = kept .counts in
     record {
       few-templates = omega (arith, many (templates g) K (counts .some-copy), counts .few-rules);

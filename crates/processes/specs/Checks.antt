@@ -1,18 +1,17 @@
 -- What the checks on a process graph find, and what holds once they have passed.
 --     CountsKept g K              == the counts of g and K are within their limits, and the five lists have one entry for each template
 --     CountsChecked g K b         == b is true and the counts are kept, or b is false and one is outside
---     EventsKnown p ss ts j       == the events that template j names exist
---     EventUnknown p ss ts j      == one of them doesn't
 --     MarkKept ms j, MarkBroken ms j == the offset mark of template j is 0 or 1, or neither
 --     ProcessKept g K n           == nothing is refused: the counts, the events and the marks are kept, and n places are enough
 --     ProcessChecked g K n a      == a is the answer where the shortest lent list has n places
--- p events, templates with sources ss, targets ts and marks ms, K copies. The delays are checked as those of a graph. Assumes nothing.
+-- Templates with marks ms, K copies. Events and delays are checked as those of a graph, by the crate faults. Assumes nothing.
 use mathlib.Core.Path.{_≡_}
 use mathlib.Core.Bool.{Bool, true, false}
 use mathlib.Core.Logic.{_⊎_}
 use mathlib.Core.List.{List}
 use Prim.Native.Nat.{ℕ, _+_, _*_, _<_, _≤_}
 use lib.ListN.{length, getD}
+use Rattle.faults.specs.Faults.{EndsKnown}
 use Rattle.processes.specs.declared.Unfolded.{Unfolded}
 use Rattle.processes.specs.Process.{ProcessGraph, templates}
 use Rattle.processes.specs.Unfolding.{CountsOutside, Answered}
@@ -31,13 +30,6 @@ pub record CountsChecked (g : ProcessGraph) (K : ℕ) (b : Bool) : Type 0 where
   pub kept : b ≡ true → CountsKept g K
   pub outside : b ≡ false → CountsOutside g K
 
-pub record EventsKnown (p : ℕ) (ss ts : List ℕ) (j : ℕ) : Type 0 where
-  pub source-known : getD ss j 0 < p
-  pub target-known : getD ts j 0 < p
-
-abbrev pub EventUnknown : ℕ → List ℕ → List ℕ → ℕ → Type 0
-EventUnknown p ss ts j = (p ≤ getD ss j 0) ⊎ (p ≤ getD ts j 0)
-
 abbrev pub MarkKept : List ℕ → ℕ → Type 0
 MarkKept ms j = (getD ms j 0 ≡ 0) ⊎ (getD ms j 0 ≡ 1)
 
@@ -47,7 +39,7 @@ pub record MarkBroken (ms : List ℕ) (j : ℕ) : Type 0 where
 
 pub record ProcessKept (g : ProcessGraph) (K n : ℕ) : Type 0 where
   pub counts : CountsKept g K
-  pub known : (j : ℕ) → j < templates g → EventsKnown (g .events) (g .sources) (g .targets) j
+  pub known : (j : ℕ) → j < templates g → EndsKnown (g .events) (g .sources) (g .targets) j
   pub marked : (j : ℕ) → j < templates g → MarkKept (g .marks) j
   pub room : templates g * K ≤ n
 

@@ -7,8 +7,6 @@ ghost use Rattle.processes.specs.Checks.{ProcessChecked};
 use crate::Unfolded;
 use crate::checks::broken_mark;
 use crate::checks::counts_kept;
-use crate::checks::outside_delay;
-use crate::checks::unknown_event;
 
 // Refusal `number` at `place`: both counts are 0.
 fn refused(number: usize, place: usize) -> Unfolded
@@ -56,11 +54,11 @@ pub(crate) fn check_process(
     if places < rules {
         return refused(1, 0);
     }
-    let unknown = unknown_event(p, sources, targets);
+    let unknown = faults::unknown_event(p, sources, targets);
     if unknown < sources.len() {
         return refused(2, unknown);
     }
-    let outside = outside_delay(leasts, mosts);
+    let outside = faults::outside_delay(leasts, mosts);
     if outside < leasts.len() {
         return refused(3, outside);
     }

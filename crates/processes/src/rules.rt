@@ -3,7 +3,7 @@ ghost use mathlib.Core.Path.{_≡_};
 ghost use Prim.Native.Nat.{ℕ, _+_, _*_, _<_, _≤_};
 ghost use lib.ListN.{length, getD};
 ghost use Rattle.processes.specs.Process.{processOf};
-ghost use Rattle.processes.specs.Checks.{ProcessKept, EventsKnown, MarkKept};
+ghost use Rattle.processes.specs.Checks.{ProcessKept};
 ghost use Rattle.processes.specs.Writing.{SourceAt, DelayAt, RuleWritten, RulesWritten};
 use crate::Event;
 use crate::Occurrence;

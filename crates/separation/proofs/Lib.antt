@@ -5,7 +5,6 @@ pub mod Promises
 pub mod Turn
 pub mod Deepest
 pub mod DepthPass
-pub mod Lowest
 pub mod Filling
 pub mod Searches
 pub mod Targets

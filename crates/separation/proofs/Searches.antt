@@ -1,5 +1,4 @@
--- What a search of checks.rt tells of the graph, by whether it stopped before the end.
---     lowest-bad, all-good                    of any search
+-- What a search for the lowest fault tells of the graph, by whether it stopped before the end.
 --     lowest-unknown, all-ends-kept           of the rules' events
 --     lowest-outside, all-delays-kept         of the rules' delays
 --     lowest-not-reached, all-reached         of the marks of the reached events
@@ -7,7 +6,7 @@
 use mathlib.Core.Path.{_≡_}
 use mathlib.Core.Bool.{Bool, true, false}
 use mathlib.Core.List.{List}
-use Prim.Native.Nat.{ℕ, _<_, _≤_}
+use Prim.Native.Nat.{ℕ, _<_, _≤_, min}
 use native.Mathlib.Omega.{arith}
 use lib.IntN.{ℤ}
 use lib.ListN.{length, getD}
@@ -15,47 +14,49 @@ use Rattle.graphs.specs.Graph.{Graph, graphOf}
 use Rattle.graphs.specs.Path.{Reachable}
 use Rattle.graphs.specs.Limits.{EndsKept, DelaysKept}
 use Rattle.graphs.specs.Refusal.{Lowest, UnknownEvent, DelayOutside, Unreached}
-use Rattle.graphs.proofs.Unique.{ends-kept, delays-kept}
-use Rattle.separation.specs.Checks.{LowestOr, EndsKnown, EndUnknown, DelaysInside, DelaysOutside}
+use Rattle.faults.specs.Faults.{LowestOr, EndsKnown, EndUnknown, DelaysInside, DelaysOutside}
+use Rattle.faults.proofs.Lowest.{lowest-bad, all-good, as-long}
+use Rattle.faults.proofs.Unique.{known-not-unknown, inside-not-outside}
 use Rattle.separation.specs.Passes.{DepthFound}
 
-pub lowest-bad : {k : ℕ} {Good Bad : ℕ → Type 0} {r : ℕ} (A : ℕ → Type 0) →
-    ((i : ℕ) → i < k → Good i → A i → ⊥) →
-    ((i : ℕ) → i < k → Bad i → A i) →
-    LowestOr k Good Bad r →
-    r < k →
-    Lowest A r
-lowest-bad {r = r} A good bad h l = record { holds = bad r l (h .bad l); lowest = λ q m. good q (omega arith) (h .before q m) }
-
-pub all-good : {k : ℕ} {Good Bad : ℕ → Type 0} {r : ℕ} → LowestOr k Good Bad r → k ≤ r → (i : ℕ) → i < k → Good i
-all-good h l i m = h .before i (omega arith)
-
 module _ {n : ℕ} {ss ts : List ℕ} {ds Ds : List ℤ} {r : ℕ} where
-  pub lowest-unknown : LowestOr (length ss) (EndsKnown n ss ts) (EndUnknown n ss ts) r →
+  pub lowest-unknown : length ts ≡ length ss →
+      LowestOr (min (length ss) (length ts)) (EndsKnown n ss ts) (EndUnknown n ss ts) r →
       r < length ss →
       Lowest (UnknownEvent (graphOf n ss ts ds Ds)) r
-  lowest-unknown = lowest-bad (UnknownEvent (graphOf n ss ts ds Ds)) (λ i _ known. ends-kept (known ds Ds)) (λ i _ unknown. unknown ds Ds)
+  lowest-unknown e h =
+      lowest-bad
+      (UnknownEvent (graphOf n ss ts ds Ds))
+      (λ i _ known u. known-not-unknown known (u .unknown))
+      (λ i l unknown. record { is-rule = l; unknown = unknown })
+      (as-long e h)
 
-  pub all-ends-kept : LowestOr (length ss) (EndsKnown n ss ts) (EndUnknown n ss ts) r →
+  pub all-ends-kept : length ts ≡ length ss →
+      LowestOr (min (length ss) (length ts)) (EndsKnown n ss ts) (EndUnknown n ss ts) r →
       length ss ≤ r →
       (i : ℕ) → i < length ss → EndsKept (graphOf n ss ts ds Ds) i
-  all-ends-kept h l i m = all-good h l i m ds Ds
+  all-ends-kept e h l i m = let known = all-good (as-long e h) l i m in record { source-known = known .source-known; target-known = known .target-known }
 
-  pub lowest-outside : length ss ≡ length ds →
-      LowestOr (length ds) (DelaysInside ds Ds) (DelaysOutside ds Ds) r →
+  pub lowest-outside : length Ds ≡ length ds →
+      length ds ≡ length ss →
+      LowestOr (min (length ds) (length Ds)) (DelaysInside ds Ds) (DelaysOutside ds Ds) r →
       r < length ds →
       Lowest (DelayOutside (graphOf n ss ts ds Ds)) r
-  lowest-outside e =
+  lowest-outside e f h =
       lowest-bad
       (DelayOutside (graphOf n ss ts ds Ds))
-      (λ i _ inside. delays-kept (inside n ss ts e))
-      (λ i _ outside. outside n ss ts e)
+      (λ i _ inside o. inside-not-outside inside (o .outside))
+      (λ i l outside. record { is-rule = omega arith; outside = outside })
+      (as-long e h)
 
-  pub all-delays-kept : length ss ≡ length ds →
-      LowestOr (length ds) (DelaysInside ds Ds) (DelaysOutside ds Ds) r →
+  pub all-delays-kept : length Ds ≡ length ds →
+      length ds ≡ length ss →
+      LowestOr (min (length ds) (length Ds)) (DelaysInside ds Ds) (DelaysOutside ds Ds) r →
       length ds ≤ r →
       (i : ℕ) → i < length ss → DelaysKept 1000000 (graphOf n ss ts ds Ds) i
-  all-delays-kept e h l i m = all-good h l i (omega arith) n ss ts e
+  all-delays-kept e f h l i m =
+      let inside = all-good (as-long e h) l i (omega arith) in
+      record { least-within = inside .least-within; most-within = inside .most-within; ordered = inside .ordered }
 
 path-to : {g : Graph} {reached : List Bool} {depth : List ℕ} {v : ℕ} → DepthFound g reached depth v → getD reached v false ≡ true → Reachable g v
 path-to found e = found .yes-depth e .reached .0

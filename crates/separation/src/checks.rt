@@ -1,16 +1,15 @@
-// The checks on a question, in the order of the refusals. Each names the lowest place that breaks its rule, or the end.
+// The checks on a question that are this crate's own: the counts, and the events that no path reaches.
 ghost use mathlib.Core.Path.{_≡_};
 ghost use mathlib.Core.Bool.{true, false};
 ghost use Prim.Native.Nat.{_≤_};
 ghost use lib.ListN.{length, getD};
 ghost use Rattle.graphs.specs.Graph.{graphOf};
-ghost use Rattle.separation.specs.Checks.{LowestOr, CountsChecked, EndsKnown, EndUnknown, DelaysChecked, DelaysInside, DelaysOutside};
+ghost use Rattle.faults.specs.Faults.{LowestOr};
+ghost use Rattle.separation.specs.Checks.{CountsChecked};
 
 const MAX_EVENTS: usize = 1024;
 
 const MAX_RULES: usize = 4096;
-
-const MAX_DELAY: i64 = 1000000;
 
 // Whether the counts are within their limits, and the four lists have one entry for each rule.
 pub(crate) fn counts_kept(
@@ -42,58 +41,6 @@ pub(crate) fn counts_kept(
         return false;
     }
     true
-}
-
-// The lowest rule that names an event not below n, or the number of rules.
-pub(crate) fn unknown_event(n: usize, sources: &[usize], targets: &[usize]) -> usize
-    requires { ⌜ length (now targets) ≡ length (now sources) ⌝ }
-    ensures { λ r. ⌜ LowestOr (length (now (sources .entry))) (EndsKnown n (now (sources .entry)) (now (targets .entry))) (EndUnknown n (now (sources .entry)) (now (targets .entry))) r ⌝ }
-{
-    let mut i = 0;
-    while i < sources.len() {
-        if sources[i] >= n {
-            return i;
-        }
-        if targets[i] >= n {
-            return i;
-        }
-        i += 1;
-    }
-    i
-}
-
-// Whether one of a rule's two delays is out of range, or the least is above the most.
-fn delays_outside(least: i64, most: i64) -> bool
-    ensures { λ r. ⌜ DelaysChecked least most r ⌝ }
-{
-    if least < -MAX_DELAY {
-        return true;
-    }
-    if least > MAX_DELAY {
-        return true;
-    }
-    if most < -MAX_DELAY {
-        return true;
-    }
-    if most > MAX_DELAY {
-        return true;
-    }
-    most < least
-}
-
-// The lowest rule whose delays are outside, or the number of rules.
-pub(crate) fn outside_delay(leasts: &[i64], mosts: &[i64]) -> usize
-    requires { ⌜ length (now mosts) ≡ length (now leasts) ⌝ }
-    ensures { λ r. ⌜ LowestOr (length (now (leasts .entry))) (DelaysInside (now (leasts .entry)) (now (mosts .entry))) (DelaysOutside (now (leasts .entry)) (now (mosts .entry))) r ⌝ }
-{
-    let mut i = 0;
-    while i < leasts.len() {
-        if delays_outside(leasts[i], mosts[i]) {
-            return i;
-        }
-        i += 1;
-    }
-    i
 }
 
 // The lowest event that is not marked as reached, or n.

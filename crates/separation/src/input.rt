@@ -6,8 +6,6 @@ ghost use Rattle.separation.specs.Analysis.{InputChecked};
 use crate::Answer;
 use crate::answers::refused;
 use crate::checks::counts_kept;
-use crate::checks::outside_delay;
-use crate::checks::unknown_event;
 
 // The first of the refusals 1 to 4 that applies, or an answer with number 0. `short` says that a lent list is too short.
 pub(crate) fn check_input(
@@ -28,11 +26,11 @@ pub(crate) fn check_input(
     if short {
         return refused(1, 0);
     }
-    let unknown = unknown_event(n, sources, targets);
+    let unknown = faults::unknown_event(n, sources, targets);
     if unknown < sources.len() {
         return refused(2, unknown);
     }
-    let outside = outside_delay(leasts, mosts);
+    let outside = faults::outside_delay(leasts, mosts);
     if outside < leasts.len() {
         return refused(3, outside);
     }

@@ -7,10 +7,10 @@ use native.Mathlib.Omega.{arith}
 use denote.Ref.{now}
 use borrow.Author.Needs.{needs}
 use borrow.Author.Tests.{not-true, not-false}
-use Rattle.separation.specs.Checks.{InsideDelays}
-use Rattle.separation.proofs.Searches.{all-good}
+use Rattle.faults.specs.Faults.{EndsKnown, InsideDelays}
+use Rattle.faults.proofs.Lowest.{all-good, as-long}
 use Rattle.processes.specs.Process.{ProcessGraph, processOf, templates, least, most}
-use Rattle.processes.specs.Checks.{CountsKept, EventsKnown, MarkKept}
+use Rattle.processes.specs.Checks.{CountsKept, MarkKept}
 use Rattle.processes.proofs.Verdicts.{lowest-unknown, lowest-outside, lowest-broken, process-1, process-2, process-3, process-7, refusal-checked, kept-checked}
 use Rattle.processes.proofs.input.check_process.Statement.{statement}
 use Rattle.processes.proofs.input.check_process.Tie as tie
@@ -23,11 +23,13 @@ graph a = processOf (a .args .p) (now (a .args .sources)) (now (a .args .targets
 counts : (c : tie.Else1) → CountsKept (graph (c .before .before .before .before .before)) (c .before .before .before .before .before .args .copies)
 counts c = c .before .counts-kept .ensures .kept (not-false _ (c .if1 .left))
 
-known : (c : tie.Else3) (j : ℕ) → j < templates (graph (c .before .before .before .before .before .before .before .before)) → EventsKnown (graph (c .before .before .before .before .before .before .before .before) .events) (graph (c .before .before .before .before .before .before .before .before) .sources) (graph (c .before .before .before .before .before .before .before .before) .targets) j
-known c = all-good (c .before .unknown-event .ensures) (c .if3 .left)
+known : (c : tie.Else3) (j : ℕ) → j < templates (graph (c .before .before .before .before .before .before .before .before)) → EndsKnown (graph (c .before .before .before .before .before .before .before .before) .events) (graph (c .before .before .before .before .before .before .before .before) .sources) (graph (c .before .before .before .before .before .before .before .before) .targets) j
+known c = all-good (as-long (counts (c .before .before .before) .targets-match) (c .before .unknown-event .ensures)) (c .if3 .left)
 
 inside : (c : tie.Else4) (j : ℕ) → j < templates (graph (c .before .before .before .before .before .before .before .before .before .before)) → InsideDelays (least (graph (c .before .before .before .before .before .before .before .before .before .before)) j) (most (graph (c .before .before .before .before .before .before .before .before .before .before)) j)
-inside c j l = all-good (c .before .outside-delay .ensures) (c .if4 .left) j (omega (arith, counts (c .before .before .before .before .before) .leasts-match))
+inside c j l =
+    let sizes = counts (c .before .before .before .before .before) in
+    all-good (as-long (sizes .mosts-match ∙ sym (sizes .leasts-match)) (c .before .outside-delay .ensures)) (c .if4 .left) j (omega (arith, sizes .leasts-match))
 
 marked : (c : tie.Else5) (j : ℕ) → j < templates (graph (c .before .before .before .before .before .before .before .before .before .before .before .before)) → MarkKept (graph (c .before .before .before .before .before .before .before .before .before .before .before .before) .marks) j
 marked c j l = all-good (c .before .broken-mark .ensures) (c .if5 .left) j (omega (arith, counts (c .before .before .before .before .before .before .before) .marks-match))
@@ -55,7 +57,7 @@ returns-2 : tie.Need-returns-2
 returns-2 c = refusal-checked 1 0 (omega arith) (c .refused2 .ensures) (process-1 (inr (c .before .if2 .taken)))
 
 unknown-event-requires : tie.Need-unknown-event-requires
-unknown-event-requires c κs = counts (c .before) .targets-match
+unknown-event-requires c κs = search needs
 
 refused-requires-3 : tie.Need-refused-requires-3
 refused-requires-3 c κs = search needs
@@ -64,10 +66,10 @@ returns-3 : tie.Need-returns-3
 returns-3 c =
     let passed = c .before .before .before in
     refusal-checked 2 _ (omega arith) (c .refused3 .ensures)
-    (process-2 (counts (passed .before)) (passed .if2 .left) (lowest-unknown (c .before .before .unknown-event .ensures) (c .before .if3 .taken)))
+    (process-2 (counts (passed .before)) (passed .if2 .left) (lowest-unknown (counts (passed .before) .targets-match) (c .before .before .unknown-event .ensures) (c .before .if3 .taken)))
 
 outside-delay-requires : tie.Need-outside-delay-requires
-outside-delay-requires c κs = counts (c .before .before .before) .mosts-match ∙ sym (counts (c .before .before .before) .leasts-match)
+outside-delay-requires c κs = search needs
 
 refused-requires-4 : tie.Need-refused-requires-4
 refused-requires-4 c κs = search needs
@@ -78,7 +80,7 @@ returns-4 c =
     let sized = counts (passed .before .before .before) in
     refusal-checked 3 _ (omega arith) (c .refused4 .ensures)
     (process-3 sized (passed .before .before .if2 .left) (known passed)
-    (lowest-outside (sized .leasts-match) (c .before .before .outside-delay .ensures) (c .before .if4 .taken)))
+    (lowest-outside (sized .mosts-match ∙ sym (sized .leasts-match)) (sized .leasts-match) (c .before .before .outside-delay .ensures) (c .before .if4 .taken)))
 
 broken-mark-requires : tie.Need-broken-mark-requires
 broken-mark-requires c κs = search needs

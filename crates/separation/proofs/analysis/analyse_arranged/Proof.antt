@@ -12,9 +12,10 @@ use Rattle.graphs.specs.Graph.{Graph, graphOf}
 use Rattle.graphs.specs.Path.{Depth}
 use Rattle.graphs.specs.Limits.{EventGraph}
 use Rattle.integers.proofs.Word.{read-back}
+use Rattle.faults.proofs.Lowest.{all-good}
 use Rattle.separation.proofs.Arranging.{sources-below, targets-below, arranged-acyclic, path-refused, path-computed}
 use Rattle.separation.proofs.Verdicts.{path-6}
-use Rattle.separation.proofs.Searches.{all-good, lowest-not-reached, all-reached}
+use Rattle.separation.proofs.Searches.{lowest-not-reached, all-reached}
 use Rattle.separation.proofs.analysis.analyse_arranged.Statement.{statement}
 use Rattle.separation.proofs.analysis.analyse_arranged.Tie as tie
 

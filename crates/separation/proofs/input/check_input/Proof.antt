@@ -29,14 +29,14 @@ module _ (c : tie.Else2) where
   room e = true≢false (sym e ∙ c .if2 .left)
 
 ends : (c : tie.Else3) (i : ℕ) → i < rules (graph (c .before .before .before .before .before .before .before)) → EndsKept (graph (c .before .before .before .before .before .before .before)) i
-ends c = all-ends-kept (c .before .unknown-event .ensures) (c .if3 .left)
+ends c = all-ends-kept (counts (c .before .before) .targets-match) (c .before .unknown-event .ensures) (c .if3 .left)
 
 sized : (c : tie.Else4) → Sized 1000000 (graph (c .before .before .before .before .before .before .before .before .before))
 sized c =
     record {
       counts = counts (c .before .before .before .before);
       ends = ends (c .before .before);
-      delays = all-delays-kept (sym (counts (c .before .before .before .before) .leasts-match)) (c .before .outside-delay .ensures) (c .if4 .left);
+      delays = let sizes = counts (c .before .before .before .before) in all-delays-kept (sizes .mosts-match ∙ sym (sizes .leasts-match)) (sizes .leasts-match) (c .before .outside-delay .ensures) (c .if4 .left);
     }
 
 -- ---- the needs
@@ -59,7 +59,7 @@ returns-2 : tie.Need-returns-2
 returns-2 c = refusal-checked 1 0 (omega arith) (c .refused2 .ensures) (input-1 (inr (c .before .if2 .taken)))
 
 unknown-event-requires : tie.Need-unknown-event-requires
-unknown-event-requires c κs = counts c .targets-match
+unknown-event-requires c κs = search needs
 
 refused-requires-3 : tie.Need-refused-requires-3
 refused-requires-3 c κs = search needs
@@ -68,10 +68,10 @@ returns-3 : tie.Need-returns-3
 returns-3 c =
     let passed = c .before .before .before in
     refusal-checked 2 _ (omega arith) (c .refused3 .ensures)
-    (input-2 (room passed) (counts passed) (lowest-unknown (c .before .before .unknown-event .ensures) (c .before .if3 .taken)))
+    (input-2 (room passed) (counts passed) (lowest-unknown (counts passed .targets-match) (c .before .before .unknown-event .ensures) (c .before .if3 .taken)))
 
 outside-delay-requires : tie.Need-outside-delay-requires
-outside-delay-requires c κs = counts (c .before .before) .mosts-match ∙ sym (counts (c .before .before) .leasts-match)
+outside-delay-requires c κs = search needs
 
 refused-requires-4 : tie.Need-refused-requires-4
 refused-requires-4 c κs = search needs
@@ -81,7 +81,7 @@ returns-4 c =
     let passed = c .before .before .before .before .before in
     refusal-checked 3 _ (omega arith) (c .refused4 .ensures)
     (input-3 (room passed) (counts passed) (ends (c .before .before .before))
-    (lowest-outside (sym (counts passed .leasts-match)) (c .before .before .outside-delay .ensures) (c .before .if4 .taken)))
+    (lowest-outside (counts passed .mosts-match ∙ sym (counts passed .leasts-match)) (counts passed .leasts-match) (c .before .before .outside-delay .ensures) (c .before .if4 .taken)))
 
 refused-requires-5 : tie.Need-refused-requires-5
 refused-requires-5 c κs = search needs

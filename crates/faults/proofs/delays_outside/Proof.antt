@@ -12,9 +12,9 @@ use mir.ValLaws.{toZ-ofZ}
 use borrow.Author.Needs.{needs}
 use Rattle.integers.proofs.Integer.{linear}
 use Rattle.graphs.specs.Refusal.{OutsideDelays, least-low, least-high, most-low, most-high, crossed}
-use Rattle.separation.specs.Checks.{DelaysChecked}
-use Rattle.separation.proofs.checks.delays_outside.Statement.{statement}
-use Rattle.separation.proofs.checks.delays_outside.Tie as tie
+use Rattle.faults.specs.Faults.{DelaysChecked}
+use Rattle.faults.proofs.delays_outside.Statement.{statement}
+use Rattle.faults.proofs.delays_outside.Tie as tie
 
 -- a test on a word's bits is the test on the number
 below : (x y : ℤ) (b : Bool) → SFits w64 x → ltZ (toZ w64 (ofZ w64 x)) y ≡ b → ltZ x y ≡ b
