@@ -31,10 +31,10 @@ fn find_latest(
     targets: &[usize],
     leasts: &[i64],
     mosts: &[i64],
-    heads_out: &[usize],
-    nexts_out: &[usize],
-    heads_in: &[usize],
-    nexts_in: &[usize],
+    heads_out: &[u16],
+    nexts_out: &[u16],
+    heads_in: &[u16],
+    nexts_in: &[u16],
     order: &[usize],
     s: usize,
     latest: &mut [i64],
@@ -80,10 +80,10 @@ fn arrange(
     n: usize,
     sources: &[usize],
     targets: &[usize],
-    heads_out: &mut [usize],
-    nexts_out: &mut [usize],
-    heads_in: &mut [usize],
-    nexts_in: &mut [usize],
+    heads_out: &mut [u16],
+    nexts_out: &mut [u16],
+    heads_in: &mut [u16],
+    nexts_in: &mut [u16],
     order: &mut [usize],
 ) -> bool
     requires { ⌜ (1 ≤ n) × (n ≤ 1024) × (length (now sources) ≤ 4096) × (length (now targets) ≡ length (now sources)) ⌝ }
@@ -105,10 +105,10 @@ fn analyse_arranged(
     targets: &[usize],
     leasts: &[i64],
     mosts: &[i64],
-    heads_out: &[usize],
-    nexts_out: &[usize],
-    heads_in: &[usize],
-    nexts_in: &[usize],
+    heads_out: &[u16],
+    nexts_out: &[u16],
+    heads_in: &[u16],
+    nexts_in: &[u16],
     order: &[usize],
     s: usize,
     t: usize,
@@ -173,10 +173,10 @@ pub(crate) fn analyse(
     requires { ⌜ (s < n) × (t < n) × (length (now latest) ≡ 1024) ⌝ }
     ensures { λ r. ⌜ Analysed (graphOf n (now (sources .entry)) (now (targets .entry)) (now (leasts .entry)) (now (mosts .entry))) s t (now (latest .exit)) r ⌝ }
 {
-    let mut heads_out = [0usize; 1024];
-    let mut nexts_out = [0usize; 4096];
-    let mut heads_in = [0usize; 1024];
-    let mut nexts_in = [0usize; 4096];
+    let mut heads_out = [0u16; 1024];
+    let mut nexts_out = [0u16; 4096];
+    let mut heads_in = [0u16; 1024];
+    let mut nexts_in = [0u16; 4096];
     let mut order = [0usize; 1024];
     if !arrange(
         n,

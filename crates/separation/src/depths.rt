@@ -24,8 +24,8 @@ fn deepest_source(
     v: usize,
     sources: &[usize],
     targets: &[usize],
-    heads: &[usize],
-    nexts: &[usize],
+    heads: &[u16],
+    nexts: &[u16],
     reached: &[bool],
     depth: &[usize],
 ) -> Reach
@@ -37,7 +37,7 @@ fn deepest_source(
 {
     let mut found = false;
     let mut best = 0;
-    let mut e = heads[v];
+    let mut e = heads[v] as usize;
     while e != 0 {
         let i = e - 1;
         let u = sources[i];
@@ -48,7 +48,7 @@ fn deepest_source(
                 best = d;
             }
         }
-        e = nexts[i];
+        e = nexts[i] as usize;
     }
     Reach {
         found: found,
@@ -61,8 +61,8 @@ fn event_reach(
     v: usize,
     sources: &[usize],
     targets: &[usize],
-    heads: &[usize],
-    nexts: &[usize],
+    heads: &[u16],
+    nexts: &[u16],
     reached: &[bool],
     depth: &[usize],
 ) -> Reach
@@ -86,8 +86,8 @@ pub(crate) fn find_depths(
     n: usize,
     sources: &[usize],
     targets: &[usize],
-    heads: &[usize],
-    nexts: &[usize],
+    heads: &[u16],
+    nexts: &[u16],
     order: &[usize],
     reached: &mut [bool],
     depth: &mut [usize],

@@ -26,8 +26,8 @@ fn arrival(
     sources: &[usize],
     targets: &[usize],
     mosts: &[i64],
-    heads: &[usize],
-    nexts: &[usize],
+    heads: &[u16],
+    nexts: &[u16],
     u: &[i64],
     v: usize,
 ) -> i64
@@ -35,16 +35,16 @@ fn arrival(
     requires { ⌜ (v < 1024) × (length (now targets) ≤ 4096) × Arrivals (now sources) (now targets) (now mosts) (now u) v ⌝ }
     ensures { λ r. ⌜ GreatestArrival (now (sources .entry)) (now (targets .entry)) (now (mosts .entry)) (now (u .entry)) v r ⌝ }
 {
-    let first = heads[v] - 1;
+    let first = heads[v] as usize - 1;
     let mut best = arrival_by(sources, mosts, u, first);
-    let mut e = nexts[first];
+    let mut e = nexts[first] as usize;
     while e != 0 {
         let i = e - 1;
         let x = arrival_by(sources, mosts, u, i);
         if best < x {
             best = x;
         }
-        e = nexts[i];
+        e = nexts[i] as usize;
     }
     best
 }
@@ -56,8 +56,8 @@ fn u_at(
     targets: &[usize],
     leasts: &[i64],
     mosts: &[i64],
-    heads: &[usize],
-    nexts: &[usize],
+    heads: &[u16],
+    nexts: &[u16],
     s: usize,
     found: &[bool],
     m: &[i64],
@@ -90,8 +90,8 @@ pub(crate) fn find_u(
     targets: &[usize],
     leasts: &[i64],
     mosts: &[i64],
-    heads: &[usize],
-    nexts: &[usize],
+    heads: &[u16],
+    nexts: &[u16],
     order: &[usize],
     s: usize,
     found: &[bool],

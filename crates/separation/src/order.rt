@@ -53,8 +53,8 @@ fn serve(
     n: usize,
     sources: &[usize],
     targets: &[usize],
-    heads: &[usize],
-    nexts: &[usize],
+    heads: &[u16],
+    nexts: &[u16],
     waiting: &mut [usize],
     order: &mut [usize],
     tail: usize,
@@ -68,13 +68,13 @@ fn serve(
 {
     let event = order[head];
     let mut end = tail;
-    let mut link = heads[event];
+    let mut link = heads[event] as usize;
     while 0 < link {
         let rule = link - 1;
         let target = targets[rule];
         let left = waiting[target] - 1;
         waiting[target] = left;
-        link = nexts[rule];
+        link = nexts[rule] as usize;
         if left == 0 {
             order[end] = target;
             end += 1;
@@ -88,8 +88,8 @@ fn serve_all(
     n: usize,
     sources: &[usize],
     targets: &[usize],
-    heads: &[usize],
-    nexts: &[usize],
+    heads: &[u16],
+    nexts: &[u16],
     waiting: &mut [usize],
     order: &mut [usize],
     first: usize,
@@ -123,8 +123,8 @@ pub(crate) fn order_events(
     n: usize,
     sources: &[usize],
     targets: &[usize],
-    heads: &[usize],
-    nexts: &[usize],
+    heads: &[u16],
+    nexts: &[u16],
     order: &mut [usize],
 ) -> bool
     requires { ⌜ (1 ≤ n) × (n ≤ 1024) × (length (now sources) ≤ 4096) × (length (now targets) ≡ length (now sources)) ⌝ }

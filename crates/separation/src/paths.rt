@@ -37,8 +37,8 @@ fn least_target(
     targets: &[usize],
     leasts: &[i64],
     mosts: &[i64],
-    heads: &[usize],
-    nexts: &[usize],
+    heads: &[u16],
+    nexts: &[u16],
     v: usize,
     found: &[bool],
     m: &[i64],
@@ -53,7 +53,7 @@ fn least_target(
         found: false,
         value: 0,
     };
-    let mut e = heads[v];
+    let mut e = heads[v] as usize;
     while e != 0 {
         let i = e - 1;
         let w = targets[i];
@@ -61,7 +61,7 @@ fn least_target(
             let x = m[w] - leasts[i];
             best = lesser(best, x);
         }
-        e = nexts[i];
+        e = nexts[i] as usize;
     }
     best
 }
@@ -73,8 +73,8 @@ fn m_of(
     targets: &[usize],
     leasts: &[i64],
     mosts: &[i64],
-    heads: &[usize],
-    nexts: &[usize],
+    heads: &[u16],
+    nexts: &[u16],
     order: &[usize],
     s: usize,
     v: usize,
@@ -115,8 +115,8 @@ pub(crate) fn find_m(
     targets: &[usize],
     leasts: &[i64],
     mosts: &[i64],
-    heads: &[usize],
-    nexts: &[usize],
+    heads: &[u16],
+    nexts: &[u16],
     order: &[usize],
     s: usize,
     found: &mut [bool],

@@ -47,6 +47,9 @@ mul-e c = search needs
 shared-slice-read-e : tie.Need-shared-slice-read-e Inv-loop μ-loop
 shared-slice-read-e c = search needs
 
+cast-e : tie.Need-cast-e Inv-loop μ-loop
+cast-e c = omega (arith, c .shared-slice-known .given (c .before .args .v))
+
 loop-holds : tie.Need-loop-holds Inv-loop μ-loop
 loop-holds c = deep-start _ _ _ _ _ _ _ (c .before .pre .1 .1 .0 .0) (c .before .pre .0 .0)
 
@@ -77,6 +80,9 @@ mul-e-2 c = record { fits = omega (arith, c .before .before .before .before .loo
 shared-slice-read-e-2 : tie.Need-shared-slice-read-e-2 Inv-loop μ-loop
 shared-slice-read-e-2 c = omega (arith, c .before .before .before .before .before .loop .inv .walk .within)
 
+cast-e-2 : tie.Need-cast-e-2 Inv-loop μ-loop
+cast-e-2 c = omega (arith, c .shared-slice-known5 .given (c .before .before .before .before .before .loop .e - 1))
+
 loop-less : tie.Need-loop-less Inv-loop μ-loop
 loop-less c = omega (arith, next-less (c .before .before .before .before))
 
@@ -99,6 +105,7 @@ deepest-source-spec =
     μ-loop
     mul-e
     shared-slice-read-e
+    cast-e
     loop-holds
     sub-i
     mul-u
@@ -109,6 +116,7 @@ deepest-source-spec =
     add-d
     mul-e-2
     shared-slice-read-e-2
+    cast-e-2
     loop-less
     loop-again
     returns)

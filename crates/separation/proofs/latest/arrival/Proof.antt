@@ -4,6 +4,7 @@ use mathlib.Core.Path.{ap}
 use mathlib.Core.Logic.{⊎-elim}
 use Prim.Native.Nat.{_-_}
 use native.Mathlib.Omega.{arith}
+use lib.ListN.{getD}
 use mir.Syntax.{w64}
 use mir.Val.{toZ}
 use mir.ValLaws.{toZ-ofZ}
@@ -24,6 +25,9 @@ mul-first c = let p = c .before .before .before .before .pre in record { fits = 
 shared-slice-read-first : tie.Need-shared-slice-read-first Inv-loop μ-loop
 shared-slice-read-first c = let p = c .before .before .before .before .before .pre in omega arith
 
+cast-first : tie.Need-cast-first Inv-loop μ-loop
+cast-first c = omega (arith, c .shared-slice-known5 .given (c .before .before .before .before .before .args .v))
+
 sub-first : tie.Need-sub-first Inv-loop μ-loop
 sub-first c = let p = c .before .before .before .before .before .pre in first-rule _ _ _ _ _ _ _ (p .0 .0) (p .1 .0) (p .1 .2)
 
@@ -42,6 +46,11 @@ shared-slice-read-e c =
     let l = p .0 .0 .heads-last _ (p .1 .0) .within in
     let some = first-rule _ _ _ _ _ _ _ (p .0 .0) (p .1 .0) (p .1 .2) in
     omega arith
+
+cast-e : tie.Need-cast-e Inv-loop μ-loop
+cast-e c =
+    let s = c .before .before .before .before .before .before .before in
+    omega (arith, c .shared-slice-known6 .given (getD (s .args .heads .now) (s .args .v) 0 - 1))
 
 loop-holds : tie.Need-loop-holds Inv-loop μ-loop
 loop-holds c =
@@ -69,6 +78,9 @@ shared-slice-read-e-2 c =
     let p = c .before .before .before .before .before .before .before .before .before .before .before .before .pre in
     let w = c .before .before .before .before .loop .inv .walk .within in
     omega arith
+
+cast-e-2 : tie.Need-cast-e-2 Inv-loop μ-loop
+cast-e-2 c = omega (arith, c .shared-slice-known7 .given (c .before .before .before .before .loop .e - 1))
 
 loop-less : tie.Need-loop-less Inv-loop μ-loop
 loop-less c =
@@ -101,15 +113,18 @@ arrival-spec =
     μ-loop
     mul-first
     shared-slice-read-first
+    cast-first
     sub-first
     arrival-by-requires
     mul-e
     shared-slice-read-e
+    cast-e
     loop-holds
     sub-i
     arrival-by-requires-2
     mul-e-2
     shared-slice-read-e-2
+    cast-e-2
     loop-less
     loop-again
     returns)

@@ -43,6 +43,9 @@ slice-write-nexts c = search needs
 add-heads : tie.Need-add-heads Inv-loop μ-loop
 add-heads c = search needs
 
+cast-heads : tie.Need-cast-heads Inv-loop μ-loop
+cast-heads c = search needs
+
 mul-heads : tie.Need-mul-heads Inv-loop μ-loop
 mul-heads c = omega (arith, key-below (c .before .before))
 
@@ -83,6 +86,7 @@ link-spec =
     mul-nexts-2
     slice-write-nexts
     add-heads
+    cast-heads
     mul-heads
     slice-write-heads
     add-i

@@ -29,6 +29,9 @@ mul-link c = omega (arith, event-below (c .before))
 shared-slice-read-link : tie.Need-shared-slice-read-link Inv-loop μ-loop
 shared-slice-read-link c = omega (arith, event-below (c .before .before))
 
+cast-link : tie.Need-cast-link Inv-loop μ-loop
+cast-link c = omega (arith, c .shared-slice-known .given (getD (c .before .before .args .order .now) (c .before .before .args .head) 0))
+
 loop-holds : tie.Need-loop-holds Inv-loop μ-loop
 loop-holds c =
     let s : tie.Start Inv-loop μ-loop = c .before .before in
@@ -113,6 +116,9 @@ mul-link-2 c = omega (arith, turn (c .before .before) .rule-known, few (c .befor
 shared-slice-read-link-2 : tie.Need-shared-slice-read-link-2 Inv-loop μ-loop
 shared-slice-read-link-2 c = omega (arith, turn (c .before .before .before) .rule-known, few (c .before .before .before))
 
+cast-link-2 : tie.Need-cast-link-2 Inv-loop μ-loop
+cast-link-2 c = omega (arith, c .shared-slice-known3 .given (rule (c .before .before .before)))
+
 mul-order : tie.Need-mul-order Inv-loop μ-loop
 mul-order c = omega (arith, turn (c .before .before .before .before) .room, few (c .before .before .before .before))
 
@@ -171,6 +177,7 @@ serve-spec =
     slice-read-event
     mul-link
     shared-slice-read-link
+    cast-link
     loop-holds
     sub-rule
     mul-target
@@ -182,6 +189,7 @@ serve-spec =
     slice-write-waiting
     mul-link-2
     shared-slice-read-link-2
+    cast-link-2
     mul-order
     slice-write-order
     add-end

@@ -36,6 +36,9 @@ mul-e c = search needs
 shared-slice-read-e : tie.Need-shared-slice-read-e Inv-loop μ-loop
 shared-slice-read-e c = search needs
 
+cast-e : tie.Need-cast-e Inv-loop μ-loop
+cast-e c = omega (arith, c .shared-slice-known6 .given (c .before .before .before .before .before .before .args .v))
+
 loop-holds : tie.Need-loop-holds Inv-loop μ-loop
 loop-holds c =
     let s = c .before .before .before .before .before .before in
@@ -81,6 +84,9 @@ mul-e-2 c = omega (arith, at-rule (c .before .before .before))
 shared-slice-read-e-2 : tie.Need-shared-slice-read-e-2 Inv-loop μ-loop
 shared-slice-read-e-2 c = omega (arith, at-rule (c .before .before .before .before))
 
+cast-e-2 : tie.Need-cast-e-2 Inv-loop μ-loop
+cast-e-2 c = omega (arith, c .shared-slice-known9 .given (c .before .before .before .before .before .loop .e - 1))
+
 loop-less : tie.Need-loop-less Inv-loop μ-loop
 loop-less c =
     let d = c .before .before .before .before in
@@ -114,6 +120,7 @@ least-target-spec =
     μ-loop
     mul-e
     shared-slice-read-e
+    cast-e
     loop-holds
     sub-i
     mul-w
@@ -127,6 +134,7 @@ least-target-spec =
     lesser-requires
     mul-e-2
     shared-slice-read-e-2
+    cast-e-2
     loop-less
     loop-again
     returns)
