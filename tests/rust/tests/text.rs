@@ -1,5 +1,6 @@
 //! The library's two text entries: on texts with known answers, and against plain Rust on random, damaged and long texts.
 
+use crankforest_tests::programs::cases;
 use crankforest_tests::random::Random;
 use crankforest_tests::{library, plain_text, texts};
 
@@ -66,7 +67,7 @@ fn known_separations() {
 fn valid_texts() {
     let mut random = Random::new(31);
     let mut out = vec![0; PLACES];
-    for _ in 0..1_500 {
+    for _ in 0..cases(1_500) {
         let text = texts::valid(&mut random);
         compare(&mut random, &text, &mut out);
     }
@@ -76,7 +77,7 @@ fn valid_texts() {
 fn texts_of_any_kind() {
     let mut random = Random::new(32);
     let mut out = vec![0; PLACES];
-    for _ in 0..4_000 {
+    for _ in 0..cases(4_000) {
         let text = texts::any(&mut random);
         compare(&mut random, &text, &mut out);
     }
@@ -111,7 +112,7 @@ fn one_text_damaged_everywhere() {
 fn random_bytes() {
     let mut random = Random::new(33);
     let mut out = vec![0; PLACES];
-    for _ in 0..3_000 {
+    for _ in 0..cases(3_000) {
         let text = texts::random_bytes(&mut random);
         compare(&mut random, &text, &mut out);
     }
@@ -122,7 +123,7 @@ fn random_bytes() {
 fn long_texts() {
     let mut random = Random::new(34);
     let mut out = vec![0; PLACES];
-    for _ in 0..300 {
+    for _ in 0..cases(300) {
         let mut text = texts::longest();
         for _ in 0..random.below(3) {
             texts::damage(&mut random, &mut text);
