@@ -1,6 +1,7 @@
 -- The figures to check by, those that 01 marks P, as statements about the definitions. Document 01, section "Figures to check by".
 --     one, row, fork, pair, below == the event graphs that the figures speak of
 --     fig1, fig1-unfolded         == the process graph of P11, and its unfolding, written out
+--     a, b                        == its process events
 --     Figure                      == what one figure says
 --       separation-is g s t x     == g is an event graph with the events s and t, and x is the separation of t from s
 --       depths-are g s t a d      == the depth of s is a, and that of t is d
@@ -10,6 +11,7 @@
 --       unfolding-is g K graph    == the graph is the process graph g, unfolded K times
 --       both f h                  == f, and h
 --     Holds f                     == what f says, in terms of the crates graphs, executions, rounding and processes
+--     b-against-a k x             == x is the separation of occurrence k of b from occurrence k of a, in the unfolding of fig 1
 --     P1 … P11                    == the figures
 --     figures                     == all of them, in a single list
 --     AllHold fs                  == every figure of the list holds: the one claim, proved in proofs/Figures.antt for `figures`
@@ -25,7 +27,8 @@ use Rattle.graphs.specs.Limits.{EventGraph}
 use Rattle.executions.specs.Separation.{Separation}
 use Rattle.executions.specs.Schedule.{Schedule}
 use Rattle.rounding.specs.Rounding.{Rounded, CoarseSeparation}
-use Rattle.processes.specs.Process.{ProcessGraph, processOf}
+use Rattle.processes.specs.declared.Event.{Event}
+use Rattle.processes.specs.Process.{ProcessGraph, processOf, occurrence}
 use Rattle.processes.specs.Unfolding.{Unfolds}
 
 -- ---- the graphs
@@ -55,6 +58,13 @@ abbrev pub fig1 : ProcessGraph
 fig1 =
     processOf 2 (0 ∷ 0 ∷ 1 ∷ 1 ∷ []) (0 ∷ 1 ∷ 0 ∷ 1 ∷ []) (pos 4 ∷ pos 1 ∷ pos 1 ∷ pos 5 ∷ []) (pos 10 ∷ pos 1 ∷ pos 1 ∷ pos 20 ∷ [])
     (1 ∷ 0 ∷ 1 ∷ 1 ∷ [])
+
+-- "events a = 0 and b = 1"
+abbrev pub a : Event
+a = record { 0 = 0 }
+
+abbrev pub b : Event
+b = record { 0 = 1 }
 
 -- three occurrences of each, "number 1 + k × p + i": a is 1, 3, 5 and b is 2, 4, 6. Four rules for k = 0, of which three are start rules, "from the
 -- root to occurrence 0 of the target, with delay [0, 0]"; then four for k = 1, and four for k = 2
@@ -164,11 +174,14 @@ P9 =
 abbrev pub P10 : Figure
 P10 = coarse-is row 4 (pos 0 ∷ pos 0 ∷ pos 0 ∷ []) (pos 100 ∷ pos 4 ∷ pos 8 ∷ []) 2 3 (pos 8)
 
+-- "b against a at the same occurrence (s is a, t is b)", occurrence k
+abbrev pub b-against-a : ℕ → ℤ → Figure
+b-against-a k = separation-is fig1-unfolded (occurrence fig1 k a .0) (occurrence fig1 k b .0)
+
 -- "P11: fig 1, b against a at the same occurrence (s is a, t is b): 1, 17, 19 at occurrences 0, 1, 2."
 abbrev pub P11 : Figure
 P11 =
-    both (unfolding-is fig1 3 fig1-unfolded)
-    (both (separation-is fig1-unfolded 1 2 (pos 1)) (both (separation-is fig1-unfolded 3 4 (pos 17)) (separation-is fig1-unfolded 5 6 (pos 19))))
+    both (unfolding-is fig1 3 fig1-unfolded) (both (b-against-a 0 (pos 1)) (both (b-against-a 1 (pos 17)) (b-against-a 2 (pos 19))))
 
 -- "P1 to P11 are proved about the definitions, gathered as a single list under one claim": with P11 the list stands whole
 abbrev pub figures : List Figure
