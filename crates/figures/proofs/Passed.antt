@@ -16,7 +16,8 @@ use Rattle.graphs.specs.Path.{Depth}
 use Rattle.graphs.specs.Limits.{Sized, EventGraph}
 use Rattle.executions.specs.Separation.{Separation}
 use Rattle.executions.specs.Steps.{U}
-use Rattle.executions.proofs.Schedules.{schedule-of, separation-of}
+use Rattle.executions.specs.Schedule.{Latest}
+use Rattle.executions.proofs.Schedules.{greatest-delay-of, schedule-of, separation-of}
 use Rattle.figures.specs.Figures.{Figure, SeparationIs, DepthsAre, Holds}
 use Rattle.figures.specs.Figures.Figure.{separation-is, depths-are, schedule-is, coarse-is, limit-met, unfolding-is, both}
 use Rattle.figures.proofs.Tests.{both-pass, eqZ, eqZ-passes}
@@ -88,7 +89,7 @@ separation-passed c g s t x p =
       target-event = target-event;
       separation =
           subst (Separation g s t) (eqZ-passes (uAt c t) x same)
-          (separation-of (event-graph c g tg) (depthAt c) (depths c g tg .grows) (source-event c g tg s ts) (u-is c g tg s ts) t target-event);
+          (separation-of (event-graph c g tg) (source-event c g tg s ts) (u-is c g tg s ts) t target-event);
     }
 
 depths-passed : (c : Certificate) (g : Graph) (s t a d : ℕ) → T (depthsPass c g s t a d) → DepthsAre g s t a d
@@ -105,13 +106,15 @@ passed c (schedule-is g s times delays) p =
     let (ts, lists) = both-pass (stepsPass c g s) _ rest in
     let (lengths, kept) = both-pass (eqb (length times) (g .events) && eqb (length delays) (rules g)) _ lists in
     let (n-times, n-delays) = both-pass (eqb (length times) (g .events)) _ lengths in
+    let late : Latest g s (λ v. getD times v (pos 0)) =
+    record { u = uAt c; steps = u-is c g tg s ts; times = times-kept g (uAt c) (λ i. getD delays i (pos 0)) (λ v. getD times v (pos 0)) kept }
+    in
     record {
       a-time-each = eqb→eq (length times) (g .events) n-times;
       a-delay-each = eqb→eq (length delays) (rules g) n-delays;
       schedule =
-          schedule-of (event-graph c g tg) (depthAt c) (depths c g tg .grows) (source-event c g tg s ts) (u-is c g tg s ts)
-          (times-kept g (uAt c) (λ i. getD delays i (pos 0)) (λ v. getD times v (pos 0)) kept)
-          (delays-lesser g (uAt c) (λ i. getD delays i (pos 0)) (λ v. getD times v (pos 0)) kept);
+          schedule-of (event-graph c g tg) late (source-event c g tg s ts)
+          (λ i l. greatest-delay-of (event-graph c g tg) late l (delays-lesser g (uAt c) (λ j. getD delays j (pos 0)) (λ v. getD times v (pos 0)) kept i l));
     }
 passed c (coarse-is g q lows highs s t x) p =
     let (tg, rest) = both-pass (graphPasses c g) _ p in

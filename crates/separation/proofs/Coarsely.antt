@@ -17,7 +17,6 @@ use lib.Seq.{length-take-le, getD-take}
 use Rattle.graphs.specs.Graph.{Graph, graphOf, rules}
 use Rattle.graphs.specs.Limits.{Sized, EventGraph}
 use Rattle.graphs.specs.Refusal.{First, given, passed, Accepted, Lowest, Unreached}
-use Rattle.graphs.proofs.Rank.{rank-of}
 use Rattle.executions.specs.Separation.{Separation, SameRules}
 use Rattle.executions.proofs.Same.{same-exchanged, path-same, cycle-same, depth-same}
 use Rattle.executions.proofs.Schedules.{separation-of}
@@ -94,7 +93,6 @@ module _ {g : Graph} {q s t : ℕ} {a : Answer} where
     coarse-found c =
         let same = rounded .same in
         let eh : EventGraph 1000999 h = record { sized = rounded-sized (kept .sized) small rounded; acyclic = c .acyclic; reachable = c .reachable } in
-        let r = rank-of h (eh .sized .ends) (eh .acyclic) in
         let hs : s < h .events = omega (arith, kept .source-known, same .events-same) in
         let ht : t < h .events = omega (arith, kept .target-known, same .events-same) in
         record {
@@ -112,7 +110,7 @@ module _ {g : Graph} {q s t : ℕ} {a : Answer} where
               record {
                 graph = h;
                 rounded = rounded;
-                greatest = subst (Separation h s t) (sym (c .at-target)) (separation-of eh (r .0) (r .1) hs (c .found .steps) t ht);
+                greatest = subst (Separation h s t) (sym (c .at-target)) (separation-of eh hs (c .found .steps) t ht);
               };
           depth-of-source = depth-same same (c .depth-of-source);
           depth-of-target = depth-same same (c .depth-of-target);
