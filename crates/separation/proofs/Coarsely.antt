@@ -7,7 +7,6 @@
 -- Assumes nothing.
 use mathlib.Core.Path.{_≡_, refl, sym, subst, subst₂, _∙_}
 use mathlib.Core.Bool.{true, false, true≢false}
-use mathlib.Core.Logic.{⊎-elim}
 use mathlib.Core.List.{List}
 use Prim.Native.Nat.{ℕ, _<_, _≤_}
 use native.Mathlib.Omega.{arith}
@@ -26,7 +25,7 @@ use Rattle.separation.specs.declared.Answer.{Answer}
 use Rattle.separation.specs.Promise.{InputVerdict, PathVerdict, Nothing}
 use Rattle.separation.specs.Coarse.{StepOutside, CoarseFound, CoarseAnswered}
 use Rattle.separation.specs.Analysis.{InputKept, InputChecked, Computed, Analysed}
-use Rattle.separation.proofs.Verdicts.{input-refused, input-passed}
+use Rattle.separation.proofs.Verdicts.{input-refused, input-passed, step-kept}
 use Rattle.separation.proofs.Exact.{verdict-short}
 
 module _ {q n : ℕ} {ss ts : List ℕ} {ds Ds : List ℤ} (low high : List ℤ) (sized : Sized 1000000 (graphOf n ss ts ds Ds)) (low-long : length ss ≤ length low) (high-long : length ss ≤ length high) where
@@ -65,10 +64,6 @@ module _ {g h : Graph} (same : SameRules g h) where
       passed (λ q c. n q (record { zero-place = c .zero-place; holds = cycle-same (same-exchanged same) (c .holds) })) (reached-same r)
 
 -- ---- the answers
-
-step-kept : {q : ℕ} → 1 ≤ q → q ≤ 1000 → (p : ℕ) → StepOutside q p → ⊥
-step-kept {q} positive small p o =
-    ⊎-elim (λ (e : q ≡ 0). let no : ⊥ = omega arith in no) (λ (l : 1000 < q). let no : ⊥ = omega arith in no) (o .outside)
 
 not-short : _≡_ false true → ⊥
 not-short e = true≢false (sym e)
