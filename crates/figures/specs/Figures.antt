@@ -7,7 +7,8 @@
 --       depths-are g s t a d      == the depth of s is a, and that of t is d
 --       schedule-is g s times delays == the two lists are the whole latest schedule against s, and no longer
 --       coarse-is g q lows highs s t x == rounded outward to steps of q, the delays of g are lows and highs, and the coarse answer is x
---       limit-met g q s t a d x y == y, the coarse answer, is (q − 1) × (a + d) above x, the exact one; a and d are the depths of s and t
+--       limit-met g q lows highs s t a d x y == x is the separation, y the coarse answer by lows and highs, a and d are the depths of s and t, and y is
+--                                    (q − 1) × (a + d) above x
 --       unfolding-is g K graph    == the graph is the process graph g, unfolded K times
 --       both f h                  == f, and h
 --     Holds f                     == what f says, in terms of the crates graphs, executions, rounding and processes
@@ -81,7 +82,7 @@ pub data Figure : Type 0 where
   depths-are : Graph → ℕ → ℕ → ℕ → ℕ → Figure
   schedule-is : Graph → ℕ → List ℤ → List ℤ → Figure
   coarse-is : Graph → ℕ → List ℤ → List ℤ → ℕ → ℕ → ℤ → Figure
-  limit-met : Graph → ℕ → ℕ → ℕ → ℕ → ℕ → ℤ → ℤ → Figure
+  limit-met : Graph → ℕ → List ℤ → List ℤ → ℕ → ℕ → ℕ → ℕ → ℤ → ℤ → Figure
   unfolding-is : ProcessGraph → ℕ → Graph → Figure
   both : Figure → Figure → Figure
 
@@ -112,7 +113,9 @@ pub record CoarseIs (g : Graph) (q : ℕ) (lows highs : List ℤ) (s t : ℕ) (x
   pub coarse : CoarseSeparation q g s t x
 
 -- "Both meet demand 3's limit exactly"
-pub record LimitMet (g : Graph) (q s t a d : ℕ) (x y : ℤ) : Type 0 where
+pub record LimitMet (g : Graph) (q : ℕ) (lows highs : List ℤ) (s t a d : ℕ) (x y : ℤ) : Type 0 where
+  pub exact : SeparationIs g s t x
+  pub coarse : CoarseIs g q lows highs s t y
   pub depths : DepthsAre g s t a d
   pub limit : y ≡ x +ℤ pos ((q - 1) * (a + d))
 
@@ -121,7 +124,7 @@ Holds (separation-is g s t x) = SeparationIs g s t x
 Holds (depths-are g s t a d) = DepthsAre g s t a d
 Holds (schedule-is g s times delays) = ScheduleIs g s times delays
 Holds (coarse-is g q lows highs s t x) = CoarseIs g q lows highs s t x
-Holds (limit-met g q s t a d x y) = LimitMet g q s t a d x y
+Holds (limit-met g q lows highs s t a d x y) = LimitMet g q lows highs s t a d x y
 -- "Unfolding it K times … gives an event graph"
 Holds (unfolding-is g K graph) = Unfolds g K graph
 Holds (both f h) = Holds f × Holds h
@@ -158,17 +161,13 @@ P6 = separation-is pair 0 1 (pos 5)
 abbrev pub P7 : Figure
 P7 = separation-is pair 1 0 (negℤ (pos 1))
 
--- "P8: 0→1 [−3, −1]: s = 0, t = 1 gives −1, and with q = 2 gives 0 … meet demand 3's limit exactly"; the interval becomes [−4, 0]
+-- "P8: 0→1 [−3, −1]: s = 0, t = 1 gives −1, and with q = 2 gives 0; … Both meet demand 3's limit exactly." The interval becomes [−4, 0]
 abbrev pub P8 : Figure
-P8 =
-    both (separation-is below 0 1 (negℤ (pos 1)))
-    (both (coarse-is below 2 (negℤ (pos 4) ∷ []) (pos 0 ∷ []) 0 1 (pos 0)) (limit-met below 2 0 1 0 1 (negℤ (pos 1)) (pos 0)))
+P8 = limit-met below 2 (negℤ (pos 4) ∷ []) (pos 0 ∷ []) 0 1 0 1 (negℤ (pos 1)) (pos 0)
 
 -- "P9: s = 1, t = 0 gives 3, and with q = 2 gives 4. Both meet demand 3's limit exactly."
 abbrev pub P9 : Figure
-P9 =
-    both (separation-is below 1 0 (pos 3))
-    (both (coarse-is below 2 (negℤ (pos 4) ∷ []) (pos 0 ∷ []) 1 0 (pos 4)) (limit-met below 2 1 0 1 0 (pos 3) (pos 4)))
+P9 = limit-met below 2 (negℤ (pos 4) ∷ []) (pos 0 ∷ []) 1 0 1 0 (pos 3) (pos 4)
 
 -- "P10: row with q = 4, s = 2, t = 3: 8."
 abbrev pub P10 : Figure
