@@ -7,6 +7,7 @@
 --     pairs-unique            what two runs of it give and leave in the lent list
 --     ends-known              a text's rules name only its events
 --     written-inside          what write_pairs counts lies in the list
+--     written-length          the list keeps its length, since every output fits
 --     OneOf ks j              j is one of the numbers ks
 --     only-1-3-4-5-6-8        no other refusal is given for a text, and only-1-3-5-6-8 by the pair program
 --     never-2, never-7, never-9       so these are not
@@ -25,7 +26,7 @@ use native.Mathlib.Omega.{arith}
 use lib.Dec.{T, eqb, eqb-refl}
 use lib.IntN.{ℤ, pos, negℤ}
 use lib.Signed.{_<ℤ_}
-use lib.ListN.{length, getD, drop, length-map, length-append}
+use lib.ListN.{length, getD, drop, length-map, length-append, length-drop}
 use Rattle.integers.specs.Within.{Within}
 use Rattle.integers.proofs.Integer.{linear, negation}
 use Rattle.graphs.specs.Graph.{Graph, rules}
@@ -40,12 +41,13 @@ use Rattle.separation.proofs.Promises.{SameValues, answers-agree, answered-exac
 use Rattle.text.specs.Grammar.{Rule, Text}
 use Rattle.text.specs.Reading.{events, sourcesOf, targetsOf, graphOfRules, TextVerdict}
 use Rattle.text.specs.Answers.{NoLists, TextAnswered, entryNumber, Entered}
-use Rattle.text.specs.Output.{ending, pairs, Lines, pairHeader, GraphVerdict, PairsVerdict, Output, table, refused, RefusedLine, PairsWritten}
+use Rattle.text.specs.Output.{ending, pairs, Lines, pairHeader, GraphVerdict, PairsVerdict, Output, table, refused, RefusedLine, ShortOutput, PairsWritten}
 use Rattle.text.specs.declared.PairsAnswer.{PairsAnswer}
-use Rattle.text.proofs.Refusals.{first-both}
+use Rattle.text.proofs.Refusals.{first-past, first-both}
 use Rattle.text.proofs.Texts.{text-unique, broken-unique}
 use Rattle.text.proofs.Unique.{verdict-unique}
 use Rattle.text.proofs.PairOrder.{lines-unique, refused-line-unique}
+use Rattle.text.proofs.Fitting.{output-fits}
 
 -- ---- the answer to a question about a text
 
@@ -153,6 +155,17 @@ written-inside {bs} {out₀} {out} {a} x = go (ℕ-discrete (a .refusal) 0)
         let (output, o, count, bytes) = x .written e in
         omega (arith, count, ap length bytes, length-append output (drop (length output) out₀))
     go (no n) = omega (arith, x .no-bytes n)
+
+pub written-length : {bs out₀ out : List ℕ} {a : PairsAnswer} → PairsWritten bs out₀ a out → length out ≡ length out₀
+written-length {bs} {out₀} {out} {a} x = go (ℕ-discrete (a .refusal) 0)
+  where
+    go : Dec (a .refusal ≡ 0) → length out ≡ length out₀
+    go (yes e) =
+        let (output, o, count, bytes) = x .written e in
+        let (long, _) = first-past (x .verdict) (λ h. let no : ⊥ = omega arith in no) in
+        let room : ShortOutput out₀ → ⊥ = λ short. long 0 (record { zero-place = refl; holds = short }) in
+        omega (arith, ap length bytes, length-append output (drop (length output) out₀), length-drop (length output) out₀, output-fits o)
+    go (no n) = ap length (x .kept n)
 
 -- ---- which refusals there are
 
