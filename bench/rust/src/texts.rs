@@ -30,7 +30,7 @@ mod with_library {
 
     extern "C" {
         fn crankforest_separation(text: *const u8, length: usize, s: usize, t: usize) -> i64;
-        fn crankforest_pairs(text: *const u8, length: usize, out: *mut u8, out_length: usize) -> usize;
+        fn crankforest_pairs(text: *const u8, length: usize, out: *mut u8, out_length: usize, place: *mut usize, bytes: *mut usize) -> usize;
     }
 
     fn separation(text: &[u8], s: usize, t: usize) -> i64 {
@@ -39,8 +39,10 @@ mod with_library {
     }
 
     fn pairs(text: &[u8], out: &mut [u8]) -> usize {
-        // SAFETY: each list is handed over with its length.
-        unsafe { crankforest_pairs(text.as_ptr(), text.len(), out.as_mut_ptr(), out.len()) }
+        let (mut place, mut bytes) = (0, 0);
+        // SAFETY: each list is handed over with its length, and the places for single numbers are our own.
+        unsafe { crankforest_pairs(text.as_ptr(), text.len(), out.as_mut_ptr(), out.len(), &mut place, &mut bytes) };
+        bytes
     }
 
     type Separation = fn(&[u8], usize, usize) -> i64;

@@ -1,6 +1,5 @@
 -- A process graph that is not refused, and its unfolding as the analysis meets it: of the analysis's refusals only 5 and 6 are left. Which of the two, and
 -- when, is in Cycles.antt.
---     none-lowest         where no number is the lowest that is A, none is A
 --     plain g             the templates of g, read as the rules of an event graph
 --     Kept g K            every rule of 01 for process graphs is kept
 --     counts-of, ends-of, delays-of, mark-of    what the absence of each refusal says; counts-inside is the first one's converse
@@ -17,8 +16,7 @@
 use mathlib.Core.Path.{_≡_, refl, sym, subst₂}
 use mathlib.Core.Logic.{_⊎_, inl, inr, ⊎-elim}
 use mathlib.Core.List.{List}
-use Prim.Native.Nat.{ℕ, zero, suc, _+_, _*_, _<_, _≤_}
-use native.Mathlib.Nat.{not-suc-le-zero}
+use Prim.Native.Nat.{ℕ, _+_, _*_, _<_, _≤_}
 use native.Mathlib.Decide.{ℕ-discrete}
 use native.Mathlib.Omega.{arith}
 use lib.IntN.{ℤ, pos}
@@ -26,9 +24,8 @@ use lib.ListN.{length, take}
 use Rattle.integers.proofs.Integer.{linear, negation}
 use Rattle.graphs.specs.Graph.{Graph, graphOf, rules}
 use Rattle.graphs.specs.Limits.{EndsKept, DelaysKept, Sized}
-use Rattle.graphs.specs.Refusal.{First, given, passed, accepted, Lowest}
-use Rattle.graphs.proofs.Below.{below-next}
-use Rattle.graphs.proofs.Unique.{stable, known-ends, ends-kept, inside-delays, delays-kept, counts-not-outside}
+use Rattle.graphs.specs.Refusal.{First, given, passed, accepted}
+use Rattle.graphs.proofs.Unique.{none-lowest, stable, known-ends, ends-kept, inside-delays, delays-kept, counts-not-outside}
 use Rattle.faults.specs.Faults.{InsideDelays}
 use Rattle.separation.specs.Promise as analysis
 use Rattle.separation.specs.Promise.{source-missing, target-missing}
@@ -58,12 +55,6 @@ use Rattle.processes.proofs.Exactly.{rule-at-place}
 use Rattle.processes.proofs.Occurrences.{occurrence-below}
 
 -- ---- a process graph that is kept
-
--- the least counterexample: at n, nothing below n is A, so if n were A it would be the lowest
-pub none-lowest : (A : ℕ → Type 0) → ((p : ℕ) → Lowest A p → ⊥) → (n i : ℕ) → i < n → A i → ⊥
-none-lowest A none zero i l a = absurd (not-suc-le-zero l)
-none-lowest A none (suc n) i l a =
-    below-next (λ (x : ℕ). A x → ⊥) n (none-lowest A none n) (λ h. none n (record { holds = h; lowest = none-lowest A none n })) i l a
 
 abbrev pub plain : ProcessGraph → Graph
 plain g = graphOf (g .events) (g .sources) (g .targets) (g .leasts) (g .mosts)
