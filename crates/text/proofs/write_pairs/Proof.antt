@@ -1,14 +1,15 @@
 -- `write_pairs` meets its contract: a list that is too short is refused, and into another `put_output` writes. Assumes nothing.
+use native.Mathlib.Omega.{arith}
 use borrow.Author.Needs.{needs}
 use Rattle.text.proofs.PairOutput.{list-refused, output-written}
 use Rattle.text.proofs.write_pairs.Statement.{statement}
 use Rattle.text.proofs.write_pairs.Tie as tie
 
 returns : tie.Need-returns
-returns c = list-refused (c .if1 .taken)
+returns c = list-refused (omega (arith, c .if1 .taken))
 
 put-output-requires : tie.Need-put-output-requires
-put-output-requires c κs = c .before .if1 .left
+put-output-requires c κs = omega arith
 
 same-length : tie.Need-same-length
 same-length c = search needs
