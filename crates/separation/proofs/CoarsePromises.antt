@@ -5,7 +5,6 @@
 --     coarse-one              with q = 1 the coarse answer is the exact one, refusals too
 -- Assumes nothing.
 use mathlib.Core.Path.{_≡_, sym, _∙_}
-use mathlib.Core.Logic.{⊎-elim}
 use Prim.Native.Nat.{ℕ}
 use native.Mathlib.Omega.{arith}
 use lib.IntN.{ℤ}
@@ -21,6 +20,7 @@ use Rattle.separation.specs.Promise.{PathVerdict, Answered}
 use Rattle.separation.specs.Coarse.{StepOutside, CoarseVerdict, CoarseAnswered}
 use Rattle.separation.proofs.Verdicts.{first-more, input-unique, path-unique}
 use Rattle.separation.proofs.Promises.{answers-agree}
+use Rattle.separation.proofs.Coarsely.{step-kept}
 
 coarse-verdict-unique : {g : Graph} {r s t : ℕ} {i p j q : ℕ} → CoarseVerdict g r s t i p → CoarseVerdict g r s t j q → (i ≡ j) × (p ≡ q)
 coarse-verdict-unique = input-unique (λ i p j q. first-unique (λ p q a b. a .its-place ∙ sym (b .its-place)) (λ i p j q. path-unique))
@@ -52,7 +52,7 @@ module _ {g : Graph} {q s t : ℕ} where
       coarse-size (f .graph) (f .step-small) (f .source-known) (f .target-known) (f .greatest)
 
 one-is-kept : {g : Graph} {j p : ℕ} → First 9 (StepOutside 1) (PathVerdict g) j p → PathVerdict g j p
-one-is-kept (given o) = absurd (⊎-elim (λ e. let no : ⊥ = omega arith in no) (λ l. let no : ⊥ = omega arith in no) (o .outside))
+one-is-kept (given {p = p} o) = absurd (step-kept (omega arith) (omega arith) p o)
 one-is-kept (passed n r) = r
 
 pub coarse-one : {g : Graph} {s t : ℕ} {a : Answer} → CoarseAnswered g 1 s t a → Answered g s t ⊥ a
