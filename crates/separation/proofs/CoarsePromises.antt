@@ -84,7 +84,7 @@ module _ {g : Graph} {q s t : ℕ} where
           coarse-verdict-unique (pb .verdict) (not-refused (f .graph) (f .source-known) (f .target-known) (λ none. none) (passed (step-kept (h .1) (h .2)))) .0
 
 one-is-kept : {g : Graph} {j p : ℕ} → First 9 (StepOutside 1) (PathVerdict g) j p → PathVerdict g j p
-one-is-kept (given {p} o) = absurd (step-kept (omega arith) (omega arith) p o)
+one-is-kept (given {p = p} o) = absurd (step-kept (omega arith) (omega arith) p o)
 one-is-kept (passed n r) = r
 
 pub coarse-one : {g : Graph} {s t : ℕ} {a : Answer} → CoarseAnswered g 1 s t a → Answered g s t ⊥ a
