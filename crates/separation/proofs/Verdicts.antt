@@ -3,6 +3,7 @@
 --     refusal-checked, kept-checked    what check_input answers
 --     input-refused                a refusal of the input is given, whatever would come after
 --     input-passed                 where the input is kept, what comes after decides
+--     step-kept                    where q is from 1 to 1,000, refusal 9 does not apply
 --     path-5, path-6, path-0       refusals 5 and 6, and that neither applies
 --     verdict-unique               two numbers and places that the verdict allows are equal
 -- Assumes nothing.
@@ -13,10 +14,11 @@ use native.Mathlib.Omega.{arith}
 use Rattle.graphs.specs.Graph.{Graph, rules}
 use Rattle.graphs.specs.Path.{HasCycle, Reachable}
 use Rattle.graphs.specs.Limits.{CountsKept, EndsKept, Sized}
-use Rattle.graphs.specs.Refusal.{First, given, passed, accepted, Lowest, CountsOutside, UnknownEvent, DelayOutside, Unreached}
+use Rattle.graphs.specs.Refusal.{First, given, passed, accepted, AtZero, Lowest, CountsOutside, UnknownEvent, DelayOutside, Unreached}
 use Rattle.graphs.proofs.Unique.{lowest-unique, atZero-unique, first-unique, accepted-unique, counts-not-outside, ends-kept, delays-kept}
 use Rattle.separation.specs.declared.Answer.{Answer}
 use Rattle.separation.specs.Promise.{MissingEnd, source-missing, target-missing, InputVerdict, PathVerdict, Verdict, Nothing}
+use Rattle.separation.specs.Coarse.{StepOutside}
 use Rattle.separation.specs.Analysis.{Never, InputKept, InputChecked}
 
 -- ---- refusals 1 to 4
@@ -36,6 +38,10 @@ pub first-more : {k : ℕ} {At : ℕ → Type 0} {Rest Rest′ : ℕ → ℕ →
 first-more f (given a) = given a
 first-more f (passed n r) = passed n (f r)
 
+-- a rule whose place is 0
+at-zero : {A : Type 0} → A → AtZero A 0
+at-zero h = record { zero-place = refl; holds = h }
+
 module _ {g : Graph} {s t : ℕ} {Short : Type 0} where
   pub input-refused : {Rest : ℕ → ℕ → Type 0} {j p : ℕ} → InputVerdict g s t Short Never j p → InputVerdict g s t Short Rest j p
   input-refused v = first-more (first-more (first-more (first-more (λ none. absurd none)))) v
@@ -53,7 +59,7 @@ module _ {g : Graph} {s t : ℕ} {Short : Type 0} where
   kept-checked r k = record { refused = λ n. absurd (n (r .0)); nothing = λ n. absurd (n (r .0)); kept = λ _. k }
 
   pub input-1 : CountsOutside g ⊎ Short → InputVerdict g s t Short Never 1 0
-  input-1 h = given (record { zero-place = refl; holds = h })
+  input-1 h = given (at-zero h)
 
   pub input-2 : (Short → ⊥) → CountsKept g → {p : ℕ} → Lowest (UnknownEvent g) p → InputVerdict g s t Short Never 2 p
   input-2 room counts h = passed (λ p a. ⊎-elim (counts-not-outside counts) room (a .holds)) (given h)
@@ -78,11 +84,17 @@ module _ {g : Graph} {s t : ℕ} {Short : Type 0} where
   pub input-passed : InputKept g s t Short → {Rest : ℕ → ℕ → Type 0} {j p : ℕ} → Rest j p → InputVerdict g s t Short Rest j p
   input-passed k r = past-3 (k .long-enough) (k .sized) (passed (no-missing-end (k .source-known) (k .target-known)) r)
 
+-- ---- refusal 9
+
+pub step-kept : {q : ℕ} → 1 ≤ q → q ≤ 1000 → (p : ℕ) → StepOutside q p → ⊥
+step-kept {q} positive small p o =
+    ⊎-elim (λ (e : q ≡ 0). let no : ⊥ = omega arith in no) (λ (l : 1000 < q). let no : ⊥ = omega arith in no) (o .outside)
+
 -- ---- refusals 5 and 6
 
 module _ {g : Graph} where
   pub path-5 : HasCycle g → PathVerdict g 5 0
-  path-5 h = given (record { zero-place = refl; holds = h })
+  path-5 h = given (at-zero h)
 
   pub path-6 : (HasCycle g → ⊥) → {p : ℕ} → Lowest (Unreached g) p → PathVerdict g 6 p
   path-6 acyclic h = passed (λ q c. acyclic (c .holds)) (given h)
