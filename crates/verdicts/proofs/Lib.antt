@@ -1,0 +1,2 @@
+-- Laws of verdicts, and of what a search for the lowest finds.
+pub mod Verdicts
