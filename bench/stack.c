@@ -62,7 +62,7 @@ static void unfold(void) {
 
 #ifdef TEXT
 static uint8_t text[32768], out[131072];
-static size_t length;
+static size_t length, bytes;
 
 static void text_separation(void) {
     separation = crankforest_separation(text, length, 1, 63);
@@ -70,7 +70,7 @@ static void text_separation(void) {
 }
 
 static void pairs(void) {
-    refusal = crankforest_pairs(text, length, out, sizeof out) < 10000;
+    refusal = crankforest_pairs(text, length, out, sizeof out, &place, &bytes);
 }
 #endif
 

@@ -39,9 +39,10 @@ enum crankforest_refusal {
  * and 1,024 rows. Refusal 4, for s or t, is checked after 3. */
 int64_t crankforest_separation(const uint8_t *text, size_t length, size_t s, size_t t);
 
-/* What the pair program writes for a text, into `out`, which needs at least 131,072 places. Gives the number of bytes; in a shorter list it writes nothing
- * and gives 0. */
-size_t crankforest_pairs(const uint8_t *text, size_t length, uint8_t *out, size_t out_length);
+/* What the pair program writes for a text, into `out`, which needs at least 131,072 places; places beyond keep what they held. Gives 0, and puts the number
+ * of bytes where it is told. A shorter list is refused: it gives CRANKFOREST_COUNTS, place 0 and 0 bytes, and the list keeps what it held. A text that is
+ * refused is no refusal of this entry: its line, `refused`, number, place, is what is written. */
+size_t crankforest_pairs(const uint8_t *text, size_t length, uint8_t *out, size_t out_length, size_t *place, size_t *bytes);
 
 /* The entries on numbers. n is the number of events, 1 to 1,024; event 0 is the root. Rule i goes from sources[i] to targets[i] and takes from leasts[i]
  * to mosts[i] ticks; up to 4,096 rules. Each entry gives the refusal's number, 0 for none, and puts the rest where it is told; refused, the separation

@@ -230,10 +230,24 @@ static int64_t separation(const char *text, size_t s, size_t t)
 static void entries_on_text(void)
 {
     static const char due[] = "from,to,least,most\r\n0,1,0,100\r\n0,2,1,102\r\n0,3,3,107\r\n1,2,1,2\r\n1,3,3,7\r\n2,3,1,6\r\n";
+    static const char refused[] = "refused,8,1\r\n";
     static uint8_t out[131072];
-    size_t length = crankforest_pairs((const uint8_t *)text_of_row, strlen(text_of_row), out, sizeof out);
-    check("the pairs of the row, bytes", (int64_t)length, (int64_t)strlen(due));
+    size_t place = 99, bytes = 99;
+    size_t refusal = crankforest_pairs((const uint8_t *)text_of_row, strlen(text_of_row), out, sizeof out, &place, &bytes);
+    check("the pairs of the row, refusal", (int64_t)refusal, CRANKFOREST_ACCEPTED);
+    check("the pairs of the row, place", (int64_t)place, 0);
+    check("the pairs of the row, bytes", (int64_t)bytes, (int64_t)strlen(due));
     check("the pairs of the row", memcmp(out, due, strlen(due)), 0);
+    place = bytes = 99;
+    refusal = crankforest_pairs(NULL, 0, out, sizeof out - 1, &place, &bytes);
+    check("a list too short for the pairs", (int64_t)refusal, CRANKFOREST_COUNTS);
+    check("a list too short for the pairs, place", (int64_t)place, 0);
+    check("a list too short for the pairs, bytes", (int64_t)bytes, 0);
+    check("a list too short for the pairs is kept", memcmp(out, due, strlen(due)), 0);
+    refusal = crankforest_pairs(NULL, 0, out, sizeof out, &place, &bytes);
+    check("the pairs of no text, refusal", (int64_t)refusal, CRANKFOREST_ACCEPTED);
+    check("the pairs of no text, bytes", (int64_t)bytes, (int64_t)strlen(refused));
+    check("the pairs of no text", memcmp(out, refused, strlen(refused)), 0);
     check("P2 by text", separation(text_of_row, 2, 3), 6);
     check("no such t", separation(text_of_row, 2, 4), CRANKFOREST_REFUSED - CRANKFOREST_QUESTION);
     check("-1 for s", separation(text_of_row, (size_t)-1, 3), CRANKFOREST_REFUSED - CRANKFOREST_QUESTION);

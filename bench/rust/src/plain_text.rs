@@ -169,7 +169,7 @@ impl Out<'_> {
     }
 }
 
-/// What crankforest_pairs writes; gives the number of bytes.
+/// What crankforest_pairs writes; gives the number of bytes, 0 where the list is too short.
 pub fn pairs(text: &[u8], out: &mut [u8]) -> usize {
     if out.len() < OUT_BYTES {
         return 0;

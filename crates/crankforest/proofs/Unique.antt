@@ -3,6 +3,7 @@
 --     schedule-entry-unique    of crankforest_schedule
 --     coarse-entry-unique      of crankforest_coarse
 --     unfold-entry-unique      of crankforest_unfold
+--     pairs-entry-unique       of crankforest_pairs
 -- Assumes nothing.
 use mathlib.Core.Path.{_≡_, ap}
 use mathlib.Core.List.{List}
@@ -18,7 +19,10 @@ use Rattle.processes.specs.Process.{ProcessGraph}
 use Rattle.processes.specs.Unfolding as process
 use Rattle.processes.specs.declared.Unfolded.{Unfolded}
 use Rattle.processes.proofs.Unique.{Same, unfold-unique}
-use Rattle.crankforest.specs.Entries.{answerOf, unfoldedOf}
+use Rattle.text.specs.Output.{PairsWritten}
+use Rattle.text.specs.declared.PairsAnswer.{PairsAnswer}
+use Rattle.text.proofs.Answered.{pairs-unique}
+use Rattle.crankforest.specs.Entries.{answerOf, unfoldedOf, pairsAnswerOf}
 
 -- equal answers have equal numbers
 pub record SameAnswer (k p : ℕ) (x : ℤ) (d e : ℕ) (k′ p′ : ℕ) (x′ : ℤ) (d′ e′ : ℕ) : Type 0 where
@@ -33,6 +37,11 @@ pub record SameUnfolded (k p n r k′ p′ n′ r′ : ℕ) : Type 0 where
   pub place-same : p ≡ p′
   pub events-same : n ≡ n′
   pub rules-same : r ≡ r′
+
+pub record SamePairs (k p b k′ p′ b′ : ℕ) : Type 0 where
+  pub refusal-same : k ≡ k′
+  pub place-same : p ≡ p′
+  pub bytes-same : b ≡ b′
 
 same-answer : {k p d e k′ p′ d′ e′ : ℕ} {x x′ : ℤ} → answerOf k p x d e ≡ answerOf k′ p′ x′ d′ e′ → SameAnswer k p x d e k′ p′ x′ d′ e′
 same-answer q =
@@ -51,6 +60,14 @@ same-unfolded q =
       place-same = ap (λ (a : Unfolded). a .place) q;
       events-same = ap (λ (a : Unfolded). a .events) q;
       rules-same = ap (λ (a : Unfolded). a .rules) q;
+    }
+
+same-pairs : {k p b k′ p′ b′ : ℕ} → pairsAnswerOf k p b ≡ pairsAnswerOf k′ p′ b′ → SamePairs k p b k′ p′ b′
+same-pairs q =
+    record {
+      refusal-same = ap (λ (a : PairsAnswer). a .refusal) q;
+      place-same = ap (λ (a : PairsAnswer). a .place) q;
+      bytes-same = ap (λ (a : PairsAnswer). a .bytes) q;
     }
 
 pub exact-entry-unique : {g : Graph} {s t k p d e k′ p′ d′ e′ : ℕ} {x x′ : ℤ}
@@ -74,3 +91,8 @@ pub unfold-entry-unique : {g : ProcessGraph} {K k p n r k′ p′ n′ r′ : �
     → process.Answered g K Short (unfoldedOf k′ p′ n′ r′) → process.Written g K (unfoldedOf k′ p′ n′ r′) ss₀ ts₀ ds₀ Ds₀ ss′ ts′ ds′ Ds′
     → SameUnfolded k p n r k′ p′ n′ r′ × Same ss ss′ ts ts′ ds ds′ Ds Ds′
 unfold-entry-unique a w b v = let same = unfold-unique a w b v in (same-unfolded (same .0), same .1)
+
+pub pairs-entry-unique : {bs : List ℕ} {k p b k′ p′ b′ : ℕ} {out₀ out out′ : List ℕ}
+    → PairsWritten bs out₀ (pairsAnswerOf k p b) out → PairsWritten bs out₀ (pairsAnswerOf k′ p′ b′) out′
+    → SamePairs k p b k′ p′ b′ × (out ≡ out′)
+pairs-entry-unique x y = let same = pairs-unique x y in (same-pairs (same .0), same .1)

@@ -9,6 +9,7 @@
 // The promises are those of the functions; specs/Entries.antt says which values the entry's numbers stand for.
 ghost use Rattle.text.specs.Answers.{Entered};
 ghost use Rattle.text.specs.Output.{PairsWritten};
+ghost use Rattle.crankforest.specs.Entries.{pairsAnswerOf};
 
 mod coarse;
 mod exact;
@@ -34,10 +35,18 @@ pub extern "C" fn crankforest_separation(text: &[u8], s: usize, t: usize) -> i64
     -4000000000 - refusal as i64
 }
 
-// What the pair program writes for a text, into a lent list of at least 131,072 places; gives the number of bytes, or 0 where the list is shorter.
+// What the pair program writes for a text, into a lent list of at least 131,072 places, and the number of bytes. A shorter list is refused.
 #[no_mangle]
-pub extern "C" fn crankforest_pairs(text: &[u8], out: &mut [u8]) -> usize
-    ensures { λ r. ⌜ PairsWritten (now (text .entry)) (now (out .entry)) r (now (out .exit)) ⌝ }
+pub extern "C" fn crankforest_pairs(
+    text: &[u8],
+    out: &mut [u8],
+    place: &mut usize,
+    bytes: &mut usize,
+) -> usize
+    ensures { λ r. ⌜ PairsWritten (now (text .entry)) (now (out .entry)) (pairsAnswerOf r (now (place .exit)) (now (bytes .exit))) (now (out .exit)) ⌝ }
 {
-    text::write_pairs(text, out)
+    let answer = text::write_pairs(text, out);
+    *place = answer.place;
+    *bytes = answer.bytes;
+    answer.refusal
 }

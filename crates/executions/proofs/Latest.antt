@@ -1,8 +1,8 @@
 -- U(v) is the greatest separation of v from s, and the times U(v) − U(root) are those of an execution.
 --
 -- The idea. Let u satisfy 01's steps (`U g s u`).
--- No execution exceeds u: along an order in which sources come first, t(v) − t(s) ≤ u v. A path from v to s puts t(s) at least the sum of its least
--- delays after t(v), so t(v) − t(s) ≤ m(v); and t(v) is at most t(source) + D for the rule by which v happens, so
+-- No execution exceeds u: along an order in which sources come first, which a graph without a cycle has (`rank-of`), t(v) − t(s) ≤ u v. A path from v to s
+-- puts t(s) at least the sum of its least delays after t(v), so t(v) − t(s) ≤ m(v); and t(v) is at most t(source) + D for the rule by which v happens, so
 -- t(v) − t(s) ≤ u(source) + D, which is at most the greatest of these.
 -- u is reached: the times u v − u 0 keep every least delay (`u-keeps-least`). For a rule from v to w, u v + d is at most u v + D, hence at
 -- most the arrival at w; and it is at most m(w), since u v ≤ m(v) ≤ m(w) − d by the path that begins with this rule. Each event is at most at the greatest
@@ -22,6 +22,7 @@ use Rattle.graphs.specs.Graph.{Graph, rules, source, target, least, most, Great
 use Rattle.graphs.specs.Path.{Path, leastSum}
 use Rattle.graphs.specs.Path.Path.{stay, step}
 use Rattle.graphs.specs.Limits.{EventGraph}
+use Rattle.graphs.proofs.Rank.{rank-of}
 use Rattle.executions.specs.Execution.{Execution}
 use Rattle.executions.specs.Steps.{M, Lesser, Capped, UOf, U}
 use Rattle.executions.specs.Steps.Capped.{with-m, without-m}
@@ -43,7 +44,7 @@ capped-right : {g : Graph} {s v : ℕ} {a y : ℤ} → Capped g s v a y → y �
 capped-right (with-m x m l) = l .right
 capped-right (without-m none e) = omega linear
 
-module _ {b : ℕ} {g : Graph} (eg : EventGraph b g) (rank : ℕ → ℕ) (first : (i : ℕ) → i < rules g → rank (source g i) < rank (target g i)) {s : ℕ} {u : ℕ → ℤ} (steps : U g s u) where
+module _ {b : ℕ} {g : Graph} (eg : EventGraph b g) {s : ℕ} {u : ℕ → ℤ} (steps : U g s u) where
   module _ {delay time : ℕ → ℤ} (x : Execution g delay time) where
     -- t(v) is at most the greatest arrival after t(s), if that holds at the source of the rule by which v happens
     below-arrival : (v : ℕ) (o : UOf g s u v) → ((i : ℕ) → i < rules g → target g i ≡ v → (time (source g i) -ℤ time s) ≤ℤ u (source g i)) → Greatest g v (λ i. time (source g i) +ℤ delay i) (time v) → (time v -ℤ time s) ≤ℤ (o .arrival)
@@ -67,14 +68,17 @@ module _ {b : ℕ} {g : Graph} (eg : EventGraph b g) (rank : ℕ → ℕ) (first
     below-at v h before (no n) =
         below-capped (keeps-least eg x) (steps .others v h n .capped) (below-arrival v (steps .others v h n) before (x .others v h n))
 
-    below-within : (k v : ℕ) → rank v < k → v < g .events → (time v -ℤ time s) ≤ℤ u v
-    below-within zero v r h = absurd (not-suc-le-zero r)
-    below-within (suc k) v r h =
-        below-at v h (λ i l e. below-within k (source g i) (omega (arith, first i l, ap rank e)) (eg .sized .ends i l .source-known)) (ℕ-discrete v 0)
+    module _ (rank : ℕ → ℕ) (first : (i : ℕ) → i < rules g → rank (source g i) < rank (target g i)) where
+      below-within : (k v : ℕ) → rank v < k → v < g .events → (time v -ℤ time s) ≤ℤ u v
+      below-within zero v r h = absurd (not-suc-le-zero r)
+      below-within (suc k) v r h =
+          below-at v h (λ i l e. below-within k (source g i) (omega (arith, first i l, ap rank e)) (eg .sized .ends i l .source-known)) (ℕ-discrete v 0)
 
     -- no choice of delays exceeds u
     pub below-u : (v : ℕ) → v < g .events → (time v -ℤ time s) ≤ℤ u v
-    below-u v h = below-within (suc (rank v)) v (le-refl (suc (rank v))) h
+    below-u v h =
+        let r = rank-of g (eg .sized .ends) (eg .acyclic) in
+        below-within (r .0) (r .1) (suc (r .0 v)) v (le-refl (suc (r .0 v))) h
 
   -- ---- u is reached
 

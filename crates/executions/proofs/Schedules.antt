@@ -1,6 +1,7 @@
 -- 01's steps give the greatest separation and the whole latest schedule: demand 2.
---     schedule-of          times U(v) − U(root), with the lesser delays, are the schedule, with all that demand 2 says of it
---     separation-of        U(v) is the greatest separation of v from s
+--     greatest-delay-of    where times are `Latest`, the lesser of a rule's most delay and the time between its two events is its greatest delay
+--     schedule-of          times that are `Latest` and the greatest delays are the schedule, with all that demand 2 says of it
+--     separation-of        "The answer is U(t)": U(v) is the greatest separation of v from s
 -- What is to be shown stands in Latest.antt and Readings.antt; here it is put together. Assumes nothing.
 use mathlib.Core.Path.{_≡_, refl, ap, sym, subst}
 use Prim.Native.Nat.{ℕ, zero, suc, _<_}
@@ -17,23 +18,21 @@ use Rattle.executions.proofs.Rules.{KeepsLeast, Reaches}
 use Rattle.executions.proofs.Latest.{below-u, u-keeps-least, u-reaches, u-at-s}
 use Rattle.executions.proofs.Readings.{lesser-min, greatest-delay, executes}
 
-module _ {b : ℕ} {g : Graph} (eg : EventGraph b g) (rank : ℕ → ℕ) (first : (i : ℕ) → i < rules g → rank (source g i) < rank (target g i)) {s : ℕ} (is-event : s < g .events) {u : ℕ → ℤ} (steps : U g s u) where
-  module _ {delay time : ℕ → ℤ} (times : (v : ℕ) → v < g .events → time v ≡ u v -ℤ u 0) (lesser : (i : ℕ) → i < rules g → Lesser (time (target g i) -ℤ time (source g i)) (most g i) (delay i)) where
-    root-event : 0 < g .events
-    root-event = eg .sized .counts .some-event
-
+module _ {b : ℕ} {g : Graph} (eg : EventGraph b g) {s : ℕ} where
+  module _ {time : ℕ → ℤ} (latest : Latest g s time) where
     keeps : KeepsLeast g time
     keeps = record { keeps = at }
       where
         at : (i : ℕ) → i < rules g → (time (source g i) +ℤ least g i) ≤ℤ time (target g i)
         at i h =
+            let u : ℕ → ℤ = latest .u in
             let S : ℕ = source g i in
             let T : ℕ = target g i in
             omega (
               linear,
-              u-keeps-least eg rank first steps .keeps i h,
-              times S (eg .sized .ends i h .source-known),
-              times T (eg .sized .ends i h .target-known),
+              u-keeps-least eg (latest .steps) .keeps i h,
+              latest .times S (eg .sized .ends i h .source-known),
+              latest .times T (eg .sized .ends i h .target-known),
               sum (u S) (least g i),
               sum (time S) (least g i),
               difference (u S) (u 0),
@@ -42,7 +41,8 @@ module _ {b : ℕ} {g : Graph} (eg : EventGraph b g) (rank : ℕ → ℕ) (first
 
     reaches : (v : ℕ) → v < g .events → (v ≡ 0 → ⊥) → Reaches g time v
     reaches v h n =
-        let r : Reaches g u v = u-reaches eg rank first steps v h n in
+        let u : ℕ → ℤ = latest .u in
+        let r : Reaches g u v = u-reaches eg (latest .steps) v h n in
         let S : ℕ = source g (r .rule) in
         record {
           rule = r .rule;
@@ -52,8 +52,8 @@ module _ {b : ℕ} {g : Graph} (eg : EventGraph b g) (rank : ℕ → ℕ) (first
               omega (
                 linear,
                 r .late,
-                times v h,
-                times S (eg .sized .ends (r .rule) (r .is-rule) .source-known),
+                latest .times v h,
+                latest .times S (eg .sized .ends (r .rule) (r .is-rule) .source-known),
                 sum (u S) (most g (r .rule)),
                 sum (time S) (most g (r .rule)),
                 difference (u v) (u 0),
@@ -61,44 +61,46 @@ module _ {b : ℕ} {g : Graph} (eg : EventGraph b g) (rank : ℕ → ℕ) (first
               );
         }
 
-    greatest : (i : ℕ) → i < rules g → GreatestDelay g time i (delay i)
-    greatest i h = greatest-delay (keeps .keeps i h) (eg .sized .delays i h .ordered) (lesser i h)
+    pub greatest-delay-of : {i : ℕ} {x : ℤ} → i < rules g → Lesser (time (target g i) -ℤ time (source g i)) (most g i) x → GreatestDelay g time i x
+    greatest-delay-of {i} h lesser = greatest-delay (keeps .keeps i h) (eg .sized .delays i h .ordered) lesser
 
-    execution : Execution g delay time
-    execution = executes eg (omega (linear, times 0 root-event, difference (u 0) (u 0))) keeps reaches greatest
+    module _ (is-event : s < g .events) {delay : ℕ → ℤ} (delays : (i : ℕ) → i < rules g → GreatestDelay g time i (delay i)) where
+      execution : Execution g delay time
+      execution =
+          executes eg (omega (linear, latest .times 0 (eg .sized .counts .some-event), difference (latest .u 0) (latest .u 0))) keeps reaches delays
 
-    against-s : (v : ℕ) → v < g .events → time v -ℤ time s ≡ u v
-    against-s v h =
-        omega (
-          linear,
-          times v h,
-          times s is-event,
-          u-at-s eg rank first steps is-event,
-          difference (u v) (u 0),
-          difference (u s) (u 0),
-          difference (time v) (time s),
-        )
+      against-s : (v : ℕ) → v < g .events → time v -ℤ time s ≡ latest .u v
+      against-s v h =
+          let u : ℕ → ℤ = latest .u in
+          omega (
+            linear,
+            latest .times v h,
+            latest .times s is-event,
+            u-at-s eg (latest .steps) is-event,
+            difference (u v) (u 0),
+            difference (u s) (u 0),
+            difference (time v) (time s),
+          )
 
-    reached-and-bound : (v : ℕ) → v < g .events → Separation g s v (u v)
-    reached-and-bound v h =
-        record {
-          reached = (delay, time, execution, against-s v h);
-          bound = λ delay′ time′ x. below-u eg rank first steps x v h;
-        }
+      reached-and-bound : (v : ℕ) → v < g .events → Separation g s v (latest .u v)
+      reached-and-bound v h =
+          record {
+            reached = (delay, time, execution, against-s v h);
+            bound = λ delay′ time′ x. below-u eg (latest .steps) x v h;
+          }
 
-    pub schedule-of : Schedule g s delay time
-    schedule-of =
-        record {
-          times = record { u = u; steps = steps; times = times };
-          delays = greatest;
-          execution = execution;
-          latest = λ v h. subst (Separation g s v) (sym (against-s v h)) (reached-and-bound v h);
-        }
+      pub schedule-of : Schedule g s delay time
+      schedule-of =
+          record {
+            times = latest;
+            delays = delays;
+            execution = execution;
+            latest = λ v h. subst (Separation g s v) (sym (against-s v h)) (reached-and-bound v h);
+          }
 
-  times-of : ℕ → ℤ
-  times-of v = u v -ℤ u 0
-
-  pub separation-of : (v : ℕ) → v < g .events → Separation g s v (u v)
-  unfolding times-of
-  separation-of v h =
-      reached-and-bound {delay = λ i. minℤ (times-of (target g i) -ℤ times-of (source g i)) (most g i)} {time = times-of} (λ w k. refl) (λ i k. lesser-min (times-of (target g i) -ℤ times-of (source g i)) (most g i)) v h
+  -- the schedule of u itself, with the lesser delays, reaches u
+  pub separation-of : s < g .events → {u : ℕ → ℤ} → U g s u → (v : ℕ) → v < g .events → Separation g s v (u v)
+  separation-of is-event {u} steps =
+      let times : Latest g s (λ v. u v -ℤ u 0) = record { u = u; steps = steps; times = λ v h. refl } in
+      reached-and-bound times is-event
+      (λ i h. greatest-delay-of times h (lesser-min ((u (target g i) -ℤ u 0) -ℤ (u (source g i) -ℤ u 0)) (most g i)))

@@ -1,8 +1,10 @@
 -- What the definitions say is said of one number, and of one schedule. Each law: two that are allowed are equal.
---     separation-unique, least-unique      the greatest and the least separation
---     schedule-times-unique, schedule-delays-unique     the times and the delays of the whole latest schedule
---     least-is-exchanged                   "The least value is minus the answer for s and t exchanged"
---     same-event                           s may equal t, and the answer is then 0
+--     separation-unique, least-unique           the greatest and the least separation
+--     u-unique                                  U, for every event
+--     latest-unique, greatest-delays-unique     the times and the delays of the whole latest schedule: "Both lists are fixed by this"
+--     least-is-exchanged                        "The least value is minus the answer for s and t exchanged"
+--     same-event                                s may equal t, and the answer is then 0
+-- U is fixed because it is the greatest separation (`separation-of`); the times are fixed by U, and the delays by the times.
 -- Assumes nothing.
 use mathlib.Core.Path.{_≡_, refl, ap, sym, subst}
 use Prim.Native.Nat.{ℕ, _<_}
@@ -13,7 +15,9 @@ use Rattle.graphs.specs.Graph.{Graph, rules, source, target}
 use Rattle.graphs.specs.Limits.{EventGraph}
 use Rattle.executions.specs.Execution.{Execution}
 use Rattle.executions.specs.Separation.{Separation, LeastSeparation}
-use Rattle.executions.specs.Schedule.{GreatestDelay, Schedule}
+use Rattle.executions.specs.Steps.{U}
+use Rattle.executions.specs.Schedule.{Latest, GreatestDelay}
+use Rattle.executions.proofs.Schedules.{separation-of}
 
 module _ {g : Graph} {s t : ℕ} where
   not-above : {x y : ℤ} → Separation g s t x → Separation g s t y → x ≤ℤ y
@@ -46,33 +50,34 @@ same-event {g} {s} {x} a =
     let r = a .reached in
     omega (linear, r .3, difference (r .1 s) (r .1 s))
 
+-- ---- the whole latest schedule
+
 greatest-delay-not-above : {g : Graph} {time time′ : ℕ → ℤ} {i : ℕ} {x y : ℤ} → time (source g i) ≡ time′ (source g i) → time (target g i) ≡ time′ (target g i) → GreatestDelay g time i x → GreatestDelay g time′ i y → x ≤ℤ y
 greatest-delay-not-above {g} {time} {time′} {i} {x} {y} es et a b =
     b .greatest x (a .from-least) (a .to-most)
     (omega (linear, a .in-time, es, et, sum (time (source g i)) x, sum (time′ (source g i)) x))
 
-module _ {b : ℕ} {g : Graph} (eg : EventGraph b g) {s : ℕ} {delay time delay′ time′ : ℕ → ℤ} (is-event : s < g .events) (a : Schedule g s delay time) (a′ : Schedule g s delay′ time′) where
-  against-s : (v : ℕ) → v < g .events → time v -ℤ time s ≡ time′ v -ℤ time′ s
-  against-s v h = separation-unique (a .latest v h) (a′ .latest v h)
+module _ {b : ℕ} {g : Graph} (eg : EventGraph b g) {s : ℕ} (is-event : s < g .events) where
+  pub u-unique : {u u′ : ℕ → ℤ} → U g s u → U g s u′ → (v : ℕ) → v < g .events → u v ≡ u′ v
+  u-unique a a′ v h = separation-unique (separation-of eg is-event a v h) (separation-of eg is-event a′ v h)
 
-  pub schedule-times-unique : (v : ℕ) → v < g .events → time v ≡ time′ v
-  schedule-times-unique v h =
-      omega (
-        linear,
-        against-s v h,
-        against-s 0 (eg .sized .counts .some-event),
-        a .execution .root,
-        a′ .execution .root,
-        difference (time v) (time s),
-        difference (time′ v) (time′ s),
-        difference (time 0) (time s),
-        difference (time′ 0) (time′ s),
-      )
+  module _ {time time′ : ℕ → ℤ} (a : Latest g s time) (a′ : Latest g s time′) where
+    pub latest-unique : (v : ℕ) → v < g .events → time v ≡ time′ v
+    latest-unique v h =
+        omega (
+          linear,
+          a .times v h,
+          a′ .times v h,
+          u-unique (a .steps) (a′ .steps) v h,
+          u-unique (a .steps) (a′ .steps) 0 (eg .sized .counts .some-event),
+          difference (a .u v) (a .u 0),
+          difference (a′ .u v) (a′ .u 0),
+        )
 
-  pub schedule-delays-unique : (i : ℕ) → i < rules g → delay i ≡ delay′ i
-  schedule-delays-unique i h =
-      let es : time (source g i) ≡ time′ (source g i) = schedule-times-unique (source g i) (eg .sized .ends i h .source-known) in
-      let et : time (target g i) ≡ time′ (target g i) = schedule-times-unique (target g i) (eg .sized .ends i h .target-known) in
-      let one : delay i ≤ℤ delay′ i = greatest-delay-not-above es et (a .delays i h) (a′ .delays i h) in
-      let other : delay′ i ≤ℤ delay i = greatest-delay-not-above (sym es) (sym et) (a′ .delays i h) (a .delays i h) in
-      omega linear
+    pub greatest-delays-unique : {delay delay′ : ℕ → ℤ} → ((i : ℕ) → i < rules g → GreatestDelay g time i (delay i)) → ((i : ℕ) → i < rules g → GreatestDelay g time′ i (delay′ i)) → (i : ℕ) → i < rules g → delay i ≡ delay′ i
+    greatest-delays-unique {delay} {delay′} x y i h =
+        let es : time (source g i) ≡ time′ (source g i) = latest-unique (source g i) (eg .sized .ends i h .source-known) in
+        let et : time (target g i) ≡ time′ (target g i) = latest-unique (target g i) (eg .sized .ends i h .target-known) in
+        let one : delay i ≤ℤ delay′ i = greatest-delay-not-above es et (x i h) (y i h) in
+        let other : delay′ i ≤ℤ delay i = greatest-delay-not-above (sym es) (sym et) (y i h) (x i h) in
+        omega linear

@@ -2,7 +2,8 @@
 --     Latest g s time         == time v is U(v) − m(root), for every event v
 --     GreatestDelay g time i x == x is the greatest delay in rule i's interval that doesn't carry its source past its target's time
 --     Schedule g s delay time == both lists of the schedule, as 01's sentence fixes them, and what demand 2 says of them
--- Assumes nothing.
+-- "Both lists are fixed by this": by `times` and `delays` of a Schedule alone (`latest-unique` and `greatest-delays-unique`, proofs/Unique.antt); what demand 2
+-- says of them follows (`schedule-of`, proofs/Schedules.antt). Assumes nothing.
 use mathlib.Core.Path.{_≡_}
 use Prim.Native.Nat.{ℕ, _<_}
 use lib.IntN.{ℤ, pos, _+ℤ_, _-ℤ_}

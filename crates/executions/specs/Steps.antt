@@ -4,7 +4,8 @@
 --     Capped g s v a y  == y is the lesser of m(v) and a; a itself where there is no m(v)
 --     UOf g s u v       == u v is U(v), got from u at the sources of the rules into v
 --     U g s u           == u v is U(v) for every event v
--- That u v is the greatest separation of v from s is proved in proofs/Latest.antt. Assumes nothing.
+-- That u v is the greatest separation of v from s is `separation-of` in proofs/Schedules.antt; that it is one number, `u-unique` in proofs/Unique.antt.
+-- Assumes nothing.
 use mathlib.Core.Path.{_≡_}
 use mathlib.Core.Logic.{_⊎_}
 use Prim.Native.Nat.{ℕ, _<_}

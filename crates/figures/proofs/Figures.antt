@@ -5,11 +5,10 @@
 use mathlib.Core.List.{List, [], _∷_}
 use Prim.Native.Nat.{ℕ}
 use lib.IntN.{ℤ, pos, negℤ}
-use Rattle.figures.specs.Figures.{below, P1, P2, P3, P4, P5, P6, P7, P8, P9, P10, P11, Holds, figures, AllHold}
-use Rattle.figures.specs.Figures.Figure.{separation-is, coarse-is, limit-met}
+use Rattle.figures.specs.Figures.{P1, P2, P3, P4, P5, P6, P7, P8, P9, P10, P11, Holds, figures, AllHold}
 use Rattle.figures.proofs.Certificate.{Certificate, MaybeM}
 use Rattle.figures.proofs.Certificate.MaybeM.{absent, m-is}
-use Rattle.figures.proofs.Passed.{separation-passed, passed}
+use Rattle.figures.proofs.Passed.{separation-passed, limit-passed, passed}
 use Rattle.figures.proofs.Unfoldings.{unfolds-to}
 
 abbrev certificate : List ℕ → List MaybeM → List ℤ → Certificate
@@ -47,18 +46,14 @@ P7-holds = passed (certificate (0 ∷ 1 ∷ []) (m- 1 ∷ m 0 ∷ []) (negℤ (p
 P8-holds : Holds P8
 P8-holds =
     let exact = certificate (0 ∷ 1 ∷ []) (m 0 ∷ absent ∷ []) (pos 0 ∷ negℤ (pos 1) ∷ []) in
-    let coarse = certificate (0 ∷ 1 ∷ []) (m 0 ∷ absent ∷ []) (pos 0 ∷ pos 0 ∷ []) in (
-      passed exact (separation-is below 0 1 (negℤ (pos 1))) tt,
-      (passed coarse (coarse-is below 2 (negℤ (pos 4) ∷ []) (pos 0 ∷ []) 0 1 (pos 0)) tt, passed exact (limit-met below 2 0 1 0 1 (negℤ (pos 1)) (pos 0)) tt),
-    )
+    let coarse = certificate (0 ∷ 1 ∷ []) (m 0 ∷ absent ∷ []) (pos 0 ∷ pos 0 ∷ []) in
+    limit-passed exact coarse _ _ _ _ _ _ _ _ _ _ tt
 
 P9-holds : Holds P9
 P9-holds =
     let exact = certificate (0 ∷ 1 ∷ []) (m 3 ∷ m 0 ∷ []) (pos 3 ∷ pos 0 ∷ []) in
-    let coarse = certificate (0 ∷ 1 ∷ []) (m 4 ∷ m 0 ∷ []) (pos 4 ∷ pos 0 ∷ []) in (
-      passed exact (separation-is below 1 0 (pos 3)) tt,
-      (passed coarse (coarse-is below 2 (negℤ (pos 4) ∷ []) (pos 0 ∷ []) 1 0 (pos 4)) tt, passed exact (limit-met below 2 1 0 1 0 (pos 3) (pos 4)) tt),
-    )
+    let coarse = certificate (0 ∷ 1 ∷ []) (m 4 ∷ m 0 ∷ []) (pos 4 ∷ pos 0 ∷ []) in
+    limit-passed exact coarse _ _ _ _ _ _ _ _ _ _ tt
 
 P10-holds : Holds P10
 P10-holds = passed (certificate (0 ∷ 1 ∷ 2 ∷ 2 ∷ []) (m 0 ∷ m 0 ∷ m 0 ∷ absent ∷ []) (pos 0 ∷ pos 0 ∷ pos 0 ∷ pos 8 ∷ [])) P10 tt

@@ -3,10 +3,12 @@
 --     stepsPass c g s      the certificate's m and U are those against s
 --     passes c f           the figure f is as the certificate has it
 --     separation-passed    a separation whose certificate passes is as the figure has it
+--     limit-passed         so is a limit that is met; the graph and the graph that it is rounded to have a certificate each
 --     passed               then the figure holds, whatever it says
 -- Assumes nothing.
 use mathlib.Core.Path.{subst}
 use mathlib.Core.Bool.{Bool, _&&_}
+use mathlib.Core.List.{List}
 use Prim.Native.Nat.{ℕ, _+_, _-_, _*_, _<_}
 use lib.IntN.{ℤ, pos, _+ℤ_}
 use lib.ListN.{length, getD}
@@ -16,8 +18,9 @@ use Rattle.graphs.specs.Path.{Depth}
 use Rattle.graphs.specs.Limits.{Sized, EventGraph}
 use Rattle.executions.specs.Separation.{Separation}
 use Rattle.executions.specs.Steps.{U}
-use Rattle.executions.proofs.Schedules.{schedule-of, separation-of}
-use Rattle.figures.specs.Figures.{Figure, SeparationIs, DepthsAre, Holds}
+use Rattle.executions.specs.Schedule.{Latest}
+use Rattle.executions.proofs.Schedules.{greatest-delay-of, schedule-of, separation-of}
+use Rattle.figures.specs.Figures.{Figure, SeparationIs, DepthsAre, CoarseIs, LimitMet, Holds}
 use Rattle.figures.specs.Figures.Figure.{separation-is, depths-are, schedule-is, coarse-is, limit-met, unfolding-is, both}
 use Rattle.figures.proofs.Tests.{both-pass, eqZ, eqZ-passes}
 use Rattle.figures.proofs.Certificate.{Certificate, depthAt, mAt, uAt, keepsLimits, limits-kept, keepsDepths, Depths, depths-kept, keepsM, ms-kept, keepsU, us-kept, keepsSchedule, times-kept, delays-lesser}
@@ -37,6 +40,16 @@ separationPasses c g s t x = graphPasses c g && (stepsPass c g s && (ltb t (g .e
 abbrev depthsPass : Certificate → Graph → ℕ → ℕ → ℕ → ℕ → Bool
 depthsPass c g s t a d = graphPasses c g && ((ltb s (g .events) && eqb (depthAt c s) a) && (ltb t (g .events) && eqb (depthAt c t) d))
 
+abbrev coarsePasses : Certificate → Graph → ℕ → List ℤ → List ℤ → ℕ → ℕ → ℤ → Bool
+coarsePasses c g q lows highs s t x =
+    graphPasses c g && (roundsTo q g lows highs && separationPasses c (graphOf (g .events) (g .sources) (g .targets) lows highs) s t x)
+
+-- c is the graph's certificate, k that of the graph that it is rounded to
+abbrev limitPasses : Certificate → Certificate → Graph → ℕ → List ℤ → List ℤ → ℕ → ℕ → ℕ → ℕ → ℤ → ℤ → Bool
+limitPasses c k g q lows highs s t a d x y =
+    separationPasses c g s t x &&
+    (coarsePasses k g q lows highs s t y && (depthsPass c g s t a d && eqZ y (x +ℤ pos ((q - 1) * (a + d)))))
+
 abbrev pub passes : Certificate → Figure → Bool
 passes c (separation-is g s t x) = separationPasses c g s t x
 passes c (depths-are g s t a d) = depthsPass c g s t a d
@@ -45,9 +58,8 @@ passes c (schedule-is g s times delays) =
     (stepsPass c g s &&
     ((eqb (length times) (g .events) && eqb (length delays) (rules g)) &&
     keepsSchedule g (uAt c) (λ i. getD delays i (pos 0)) (λ v. getD times v (pos 0))))
-passes c (coarse-is g q lows highs s t x) =
-    graphPasses c g && (roundsTo q g lows highs && separationPasses c (graphOf (g .events) (g .sources) (g .targets) lows highs) s t x)
-passes c (limit-met g q s t a d x y) = depthsPass c g s t a d && eqZ y (x +ℤ pos ((q - 1) * (a + d)))
+passes c (coarse-is g q lows highs s t x) = coarsePasses c g q lows highs s t x
+passes c (limit-met g q lows highs s t a d x y) = limitPasses c c g q lows highs s t a d x y
 passes c (unfolding-is g K graph) = unfoldsTo g K graph
 passes c (both f h) = passes c f && passes c h
 
@@ -88,7 +100,7 @@ separation-passed c g s t x p =
       target-event = target-event;
       separation =
           subst (Separation g s t) (eqZ-passes (uAt c t) x same)
-          (separation-of (event-graph c g tg) (depthAt c) (depths c g tg .grows) (source-event c g tg s ts) (u-is c g tg s ts) t target-event);
+          (separation-of (event-graph c g tg) (source-event c g tg s ts) (u-is c g tg s ts) t target-event);
     }
 
 depths-passed : (c : Certificate) (g : Graph) (s t a d : ℕ) → T (depthsPass c g s t a d) → DepthsAre g s t a d
@@ -97,23 +109,8 @@ depths-passed c g s t a d p =
     let (da, dd) = both-pass (ltb s (g .events) && eqb (depthAt c s) a) _ rest in
     record { source-depth = depth-is c g tg s a da; target-depth = depth-is c g tg t d dd }
 
-pub passed : (c : Certificate) (f : Figure) → T (passes c f) → Holds f
-passed c (separation-is g s t x) p = separation-passed c g s t x p
-passed c (depths-are g s t a d) p = depths-passed c g s t a d p
-passed c (schedule-is g s times delays) p =
-    let (tg, rest) = both-pass (graphPasses c g) _ p in
-    let (ts, lists) = both-pass (stepsPass c g s) _ rest in
-    let (lengths, kept) = both-pass (eqb (length times) (g .events) && eqb (length delays) (rules g)) _ lists in
-    let (n-times, n-delays) = both-pass (eqb (length times) (g .events)) _ lengths in
-    record {
-      a-time-each = eqb→eq (length times) (g .events) n-times;
-      a-delay-each = eqb→eq (length delays) (rules g) n-delays;
-      schedule =
-          schedule-of (event-graph c g tg) (depthAt c) (depths c g tg .grows) (source-event c g tg s ts) (u-is c g tg s ts)
-          (times-kept g (uAt c) (λ i. getD delays i (pos 0)) (λ v. getD times v (pos 0)) kept)
-          (delays-lesser g (uAt c) (λ i. getD delays i (pos 0)) (λ v. getD times v (pos 0)) kept);
-    }
-passed c (coarse-is g q lows highs s t x) p =
+coarse-passed : (c : Certificate) (g : Graph) (q : ℕ) (lows highs : List ℤ) (s t : ℕ) (x : ℤ) → T (coarsePasses c g q lows highs s t x) → CoarseIs g q lows highs s t x
+coarse-passed c g q lows highs s t x p =
     let (tg, rest) = both-pass (graphPasses c g) _ p in
     let (tr, tx) = both-pass (roundsTo q g lows highs) _ rest in
     let rounded = rounds-to q g lows highs tr in
@@ -125,9 +122,39 @@ passed c (coarse-is g q lows highs s t x) p =
       rounded = rounded;
       coarse = record { graph = graphOf (g .events) (g .sources) (g .targets) lows highs; rounded = rounded; greatest = answer .separation };
     }
-passed c (limit-met g q s t a d x y) p =
-    let (td, ty) = both-pass (depthsPass c g s t a d) _ p in
-    record { depths = depths-passed c g s t a d td; limit = eqZ-passes y (x +ℤ pos ((q - 1) * (a + d))) ty }
+
+pub limit-passed : (c k : Certificate) (g : Graph) (q : ℕ) (lows highs : List ℤ) (s t a d : ℕ) (x y : ℤ) → T (limitPasses c k g q lows highs s t a d x y) → LimitMet g q lows highs s t a d x y
+limit-passed c k g q lows highs s t a d x y p =
+    let (tx, rest) = both-pass (separationPasses c g s t x) _ p in
+    let (ty, met) = both-pass (coarsePasses k g q lows highs s t y) _ rest in
+    let (td, tl) = both-pass (depthsPass c g s t a d) _ met in
+    record {
+      exact = separation-passed c g s t x tx;
+      coarse = coarse-passed k g q lows highs s t y ty;
+      depths = depths-passed c g s t a d td;
+      limit = eqZ-passes y (x +ℤ pos ((q - 1) * (a + d))) tl;
+    }
+
+pub passed : (c : Certificate) (f : Figure) → T (passes c f) → Holds f
+passed c (separation-is g s t x) p = separation-passed c g s t x p
+passed c (depths-are g s t a d) p = depths-passed c g s t a d p
+passed c (schedule-is g s times delays) p =
+    let (tg, rest) = both-pass (graphPasses c g) _ p in
+    let (ts, lists) = both-pass (stepsPass c g s) _ rest in
+    let (lengths, kept) = both-pass (eqb (length times) (g .events) && eqb (length delays) (rules g)) _ lists in
+    let (n-times, n-delays) = both-pass (eqb (length times) (g .events)) _ lengths in
+    let late : Latest g s (λ v. getD times v (pos 0)) =
+    record { u = uAt c; steps = u-is c g tg s ts; times = times-kept g (uAt c) (λ i. getD delays i (pos 0)) (λ v. getD times v (pos 0)) kept }
+    in
+    record {
+      a-time-each = eqb→eq (length times) (g .events) n-times;
+      a-delay-each = eqb→eq (length delays) (rules g) n-delays;
+      schedule =
+          schedule-of (event-graph c g tg) late (source-event c g tg s ts)
+          (λ i l. greatest-delay-of (event-graph c g tg) late l (delays-lesser g (uAt c) (λ j. getD delays j (pos 0)) (λ v. getD times v (pos 0)) kept i l));
+    }
+passed c (coarse-is g q lows highs s t x) p = coarse-passed c g q lows highs s t x p
+passed c (limit-met g q lows highs s t a d x y) p = limit-passed c c g q lows highs s t a d x y p
 passed c (unfolding-is g K graph) p = unfolds-to g K graph p
 passed c (both f h) p =
     let (first, second) = both-pass (passes c f) _ p in

@@ -1,15 +1,18 @@
 -- The figures to check by, those that 01 marks P, as statements about the definitions. Document 01, section "Figures to check by".
 --     one, row, fork, pair, below == the event graphs that the figures speak of
 --     fig1, fig1-unfolded         == the process graph of P11, and its unfolding, written out
+--     a, b                        == its process events
 --     Figure                      == what one figure says
 --       separation-is g s t x     == g is an event graph with the events s and t, and x is the separation of t from s
 --       depths-are g s t a d      == the depth of s is a, and that of t is d
 --       schedule-is g s times delays == the two lists are the whole latest schedule against s, and no longer
 --       coarse-is g q lows highs s t x == rounded outward to steps of q, the delays of g are lows and highs, and the coarse answer is x
---       limit-met g q s t a d x y == y, the coarse answer, is (q − 1) × (a + d) above x, the exact one; a and d are the depths of s and t
+--       limit-met g q lows highs s t a d x y == x is the separation, y the coarse answer by lows and highs, a and d are the depths of s and t, and y is
+--                                    (q − 1) × (a + d) above x
 --       unfolding-is g K graph    == the graph is the process graph g, unfolded K times
 --       both f h                  == f, and h
 --     Holds f                     == what f says, in terms of the crates graphs, executions, rounding and processes
+--     b-against-a k x             == x is the separation of occurrence k of b from occurrence k of a, in the unfolding of fig 1
 --     P1 … P11                    == the figures
 --     figures                     == all of them, in a single list
 --     AllHold fs                  == every figure of the list holds: the one claim, proved in proofs/Figures.antt for `figures`
@@ -25,7 +28,8 @@ use Rattle.graphs.specs.Limits.{EventGraph}
 use Rattle.executions.specs.Separation.{Separation}
 use Rattle.executions.specs.Schedule.{Schedule}
 use Rattle.rounding.specs.Rounding.{Rounded, CoarseSeparation}
-use Rattle.processes.specs.Process.{ProcessGraph, processOf}
+use Rattle.processes.specs.declared.Event.{Event}
+use Rattle.processes.specs.Process.{ProcessGraph, processOf, occurrence}
 use Rattle.processes.specs.Unfolding.{Unfolds}
 
 -- ---- the graphs
@@ -56,6 +60,13 @@ fig1 =
     processOf 2 (0 ∷ 0 ∷ 1 ∷ 1 ∷ []) (0 ∷ 1 ∷ 0 ∷ 1 ∷ []) (pos 4 ∷ pos 1 ∷ pos 1 ∷ pos 5 ∷ []) (pos 10 ∷ pos 1 ∷ pos 1 ∷ pos 20 ∷ [])
     (1 ∷ 0 ∷ 1 ∷ 1 ∷ [])
 
+-- "events a = 0 and b = 1"
+abbrev pub a : Event
+a = record { 0 = 0 }
+
+abbrev pub b : Event
+b = record { 0 = 1 }
+
 -- three occurrences of each, "number 1 + k × p + i": a is 1, 3, 5 and b is 2, 4, 6. Four rules for k = 0, of which three are start rules, "from the
 -- root to occurrence 0 of the target, with delay [0, 0]"; then four for k = 1, and four for k = 2
 abbrev pub fig1-unfolded : Graph
@@ -71,7 +82,7 @@ pub data Figure : Type 0 where
   depths-are : Graph → ℕ → ℕ → ℕ → ℕ → Figure
   schedule-is : Graph → ℕ → List ℤ → List ℤ → Figure
   coarse-is : Graph → ℕ → List ℤ → List ℤ → ℕ → ℕ → ℤ → Figure
-  limit-met : Graph → ℕ → ℕ → ℕ → ℕ → ℕ → ℤ → ℤ → Figure
+  limit-met : Graph → ℕ → List ℤ → List ℤ → ℕ → ℕ → ℕ → ℕ → ℤ → ℤ → Figure
   unfolding-is : ProcessGraph → ℕ → Graph → Figure
   both : Figure → Figure → Figure
 
@@ -102,7 +113,9 @@ pub record CoarseIs (g : Graph) (q : ℕ) (lows highs : List ℤ) (s t : ℕ) (x
   pub coarse : CoarseSeparation q g s t x
 
 -- "Both meet demand 3's limit exactly"
-pub record LimitMet (g : Graph) (q s t a d : ℕ) (x y : ℤ) : Type 0 where
+pub record LimitMet (g : Graph) (q : ℕ) (lows highs : List ℤ) (s t a d : ℕ) (x y : ℤ) : Type 0 where
+  pub exact : SeparationIs g s t x
+  pub coarse : CoarseIs g q lows highs s t y
   pub depths : DepthsAre g s t a d
   pub limit : y ≡ x +ℤ pos ((q - 1) * (a + d))
 
@@ -111,7 +124,7 @@ Holds (separation-is g s t x) = SeparationIs g s t x
 Holds (depths-are g s t a d) = DepthsAre g s t a d
 Holds (schedule-is g s times delays) = ScheduleIs g s times delays
 Holds (coarse-is g q lows highs s t x) = CoarseIs g q lows highs s t x
-Holds (limit-met g q s t a d x y) = LimitMet g q s t a d x y
+Holds (limit-met g q lows highs s t a d x y) = LimitMet g q lows highs s t a d x y
 -- "Unfolding it K times … gives an event graph"
 Holds (unfolding-is g K graph) = Unfolds g K graph
 Holds (both f h) = Holds f × Holds h
@@ -148,27 +161,26 @@ P6 = separation-is pair 0 1 (pos 5)
 abbrev pub P7 : Figure
 P7 = separation-is pair 1 0 (negℤ (pos 1))
 
--- "P8: 0→1 [−3, −1]: s = 0, t = 1 gives −1, and with q = 2 gives 0 … meet demand 3's limit exactly"; the interval becomes [−4, 0]
+-- "P8: 0→1 [−3, −1]: s = 0, t = 1 gives −1, and with q = 2 gives 0; … Both meet demand 3's limit exactly." The interval becomes [−4, 0]
 abbrev pub P8 : Figure
-P8 =
-    both (separation-is below 0 1 (negℤ (pos 1)))
-    (both (coarse-is below 2 (negℤ (pos 4) ∷ []) (pos 0 ∷ []) 0 1 (pos 0)) (limit-met below 2 0 1 0 1 (negℤ (pos 1)) (pos 0)))
+P8 = limit-met below 2 (negℤ (pos 4) ∷ []) (pos 0 ∷ []) 0 1 0 1 (negℤ (pos 1)) (pos 0)
 
 -- "P9: s = 1, t = 0 gives 3, and with q = 2 gives 4. Both meet demand 3's limit exactly."
 abbrev pub P9 : Figure
-P9 =
-    both (separation-is below 1 0 (pos 3))
-    (both (coarse-is below 2 (negℤ (pos 4) ∷ []) (pos 0 ∷ []) 1 0 (pos 4)) (limit-met below 2 1 0 1 0 (pos 3) (pos 4)))
+P9 = limit-met below 2 (negℤ (pos 4) ∷ []) (pos 0 ∷ []) 1 0 1 0 (pos 3) (pos 4)
 
 -- "P10: row with q = 4, s = 2, t = 3: 8."
 abbrev pub P10 : Figure
 P10 = coarse-is row 4 (pos 0 ∷ pos 0 ∷ pos 0 ∷ []) (pos 100 ∷ pos 4 ∷ pos 8 ∷ []) 2 3 (pos 8)
 
+-- "b against a at the same occurrence (s is a, t is b)", occurrence k
+abbrev pub b-against-a : ℕ → ℤ → Figure
+b-against-a k = separation-is fig1-unfolded (occurrence fig1 k a .0) (occurrence fig1 k b .0)
+
 -- "P11: fig 1, b against a at the same occurrence (s is a, t is b): 1, 17, 19 at occurrences 0, 1, 2."
 abbrev pub P11 : Figure
 P11 =
-    both (unfolding-is fig1 3 fig1-unfolded)
-    (both (separation-is fig1-unfolded 1 2 (pos 1)) (both (separation-is fig1-unfolded 3 4 (pos 17)) (separation-is fig1-unfolded 5 6 (pos 19))))
+    both (unfolding-is fig1 3 fig1-unfolded) (both (b-against-a 0 (pos 1)) (both (b-against-a 1 (pos 17)) (b-against-a 2 (pos 19))))
 
 -- "P1 to P11 are proved about the definitions, gathered as a single list under one claim": with P11 the list stands whole
 abbrev pub figures : List Figure

@@ -3,13 +3,16 @@
 --     lowest-unique, atZero-unique       the place of a refusal is one
 --     OnePlace At, OneVerdict Rest       At holds of one place at most; Rest gives one number and place at most
 --     first-unique, accepted-unique      a verdict's number and place are one
+--     none-lowest                        where no number is the lowest that is A, none is A
 --     counts-kept, counts-not-outside    the counts are kept just where refusal 1 does not apply to the graph
 --     known-ends, ends-kept              the same of a rule's events and refusal 2
 --     inside-delays, delays-kept         the same of a rule's delays and refusal 3
+--     sized-of                           so a graph to which none of the three applies is sized
 -- Assumes nothing.
 use mathlib.Core.Path.{_≡_, refl}
 use mathlib.Core.Logic.{_⊎_, inl, inr}
-use Prim.Native.Nat.{ℕ, _+_, _≤_, _<_}
+use Prim.Native.Nat.{ℕ, zero, suc, _+_, _≤_, _<_}
+use native.Mathlib.Nat.{not-suc-le-zero}
 use native.Mathlib.Decide.{ℕ-discrete}
 use native.Mathlib.Omega.{arith}
 use lib.IntN.{ℤ, pos}
@@ -18,7 +21,7 @@ use lib.ListN.{length}
 use Rattle.integers.proofs.Integer.{P, N, <ℤ-from, linear, negation}
 use Rattle.graphs.specs.Graph.{Graph, rules, source, target, least, most}
 use Rattle.graphs.specs.Path.{Depth}
-use Rattle.graphs.specs.Limits.{CountsKept, EndsKept, DelaysKept}
+use Rattle.graphs.specs.Limits.{CountsKept, EndsKept, DelaysKept, Sized}
 use Rattle.graphs.specs.Refusal.{
   First,
   given,
@@ -43,6 +46,7 @@ use Rattle.graphs.specs.Refusal.{
   crossed,
   DelayOutside,
 }
+use Rattle.graphs.proofs.Below.{below-next}
 
 pub depth-unique : {g : Graph} {v j k : ℕ} → Depth g v j → Depth g v k → j ≡ k
 depth-unique a b =
@@ -78,6 +82,12 @@ first-unique one rest (passed {j = i} {p = p} none a) (passed {j = j} {p = q} no
 
 pub accepted-unique : {i p j q : ℕ} → Accepted i p → Accepted j q → (i ≡ j) × (p ≡ q)
 accepted-unique accepted accepted = (refl, refl)
+
+-- the least counterexample: at n, nothing below n is A, so if n were A it would be the lowest
+pub none-lowest : (A : ℕ → Type 0) → ((p : ℕ) → Lowest A p → ⊥) → (n i : ℕ) → i < n → A i → ⊥
+none-lowest A none zero i l a = absurd (not-suc-le-zero l)
+none-lowest A none (suc n) i l a =
+    below-next (λ (x : ℕ). A x → ⊥) n (none-lowest A none n) (λ h. none n (record { holds = h; lowest = none-lowest A none n })) i l a
 
 -- ---- refusal 1
 
@@ -148,3 +158,13 @@ delays-kept {g} {i} kept d = by (d .outside)
     by (most-low h) = omega (linear, negation (pos 1000000), kept .most-within .above)
     by (most-high h) = omega (linear, kept .most-within .below)
     by (crossed h) = omega (linear, kept .ordered)
+
+-- ---- refusals 1 to 3
+
+pub sized-of : {g : Graph} → (CountsOutside g → ⊥) → ((p : ℕ) → Lowest (UnknownEvent g) p → ⊥) → ((p : ℕ) → Lowest (DelayOutside g) p → ⊥) → Sized 1000000 g
+sized-of {g} no-1 no-2 no-3 =
+    record {
+      counts = counts-kept no-1;
+      ends = λ i l. known-ends l (none-lowest (UnknownEvent g) no-2 (rules g) i l);
+      delays = λ i l. inside-delays l (none-lowest (DelayOutside g) no-3 (rules g) i l);
+    }

@@ -16,7 +16,7 @@ use lib.IntN.{ℤ, pos}
 use lib.Signed.{_≤ℤ_}
 use lib.ListN.{length, getD}
 
--- "A graph has n events, numbered from 0 … A rule has a source event, a target event, a least delay d and a most delay D." Event 0 is the root
+-- "A graph has n events, numbered from 0"; "A rule has a source event, a target event, a least delay d and a most delay D". "Event 0 is the root"
 pub record Graph : Type 0 where
   pub events : ℕ
   pub sources : List ℕ
@@ -27,7 +27,7 @@ pub record Graph : Type 0 where
 abbrev pub graphOf : ℕ → List ℕ → List ℕ → List ℤ → List ℤ → Graph
 graphOf n ss ts ds Ds = record { events = n; sources = ss; targets = ts; leasts = ds; mosts = Ds }
 
--- "It has r rules, numbered from 0 in the order given"
+-- "It has r rules, … numbered from 0 in the order given"
 abbrev pub rules : Graph → ℕ
 rules g = length (g .sources)
 

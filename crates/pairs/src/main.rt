@@ -20,7 +20,7 @@ fn skip_rest() {
     }
 }
 
-// One byte more than a text may have is enough to refuse it.
+// One byte more than a text may have is enough to refuse it. The list for the output is as long as `text::write_pairs` asks.
 fn main() {
     let mut input = [0u8; 32769];
     let length = io::read_full(STDIN_FILENO, &mut input);
@@ -28,6 +28,7 @@ fn main() {
         skip_rest();
     }
     let mut out = [0u8; 131072];
-    let count = text::write_pairs(&input[..length], &mut out);
-    io::write_all(STDOUT_FILENO, &out[..count]);
+    let answer = text::write_pairs(&input[..length], &mut out);
+    let bytes = answer.bytes;
+    io::write_all(STDOUT_FILENO, &out[..bytes]);
 }

@@ -1,6 +1,5 @@
--- A process graph that is not refused, and its unfolding as the analysis meets it. Document 01: "A cycle of mark-0 templates isn't refused here; the
--- analysis refuses the result with 5."
---     none-lowest         where no number is the lowest that is A, none is A
+-- A process graph that is not refused, and its unfolding as the analysis meets it: of the analysis's refusals only 5 and 6 are left. Which of the two, and
+-- when, is in Cycles.antt.
 --     plain g             the templates of g, read as the rules of an event graph
 --     Kept g K            every rule of 01 for process graphs is kept
 --     counts-of, ends-of, delays-of, mark-of    what the absence of each refusal says; counts-inside is the first one's converse
@@ -8,14 +7,16 @@
 --     kept-accepted       and where all is kept and the lists are long enough, it refuses nothing
 --     instance-sized      the instance of a kept template at a k below K has known ends and delays inside
 --     unfolded-sized      the unfolding passes the analysis's refusals 1, 2 and 3
+--     first-rest          a rule that applies nowhere leaves the verdict to those after it
+--     past-4              asked about two of its events, it passes refusal 4 too
 --     only-5-or-6         so the analysis refuses it only with 5 or 6
---     handed-on           the same, of the lists that an accepted unfolding leaves
+--     handed              the lists that an accepted unfolding leaves are the unfolding of a process graph that is kept
+--     handed-on           so the analysis refuses them only with 5 or 6
 -- Assumes nothing.
 use mathlib.Core.Path.{_≡_, refl, sym, subst₂}
 use mathlib.Core.Logic.{_⊎_, inl, inr, ⊎-elim}
 use mathlib.Core.List.{List}
-use Prim.Native.Nat.{ℕ, zero, suc, _+_, _*_, _<_, _≤_}
-use native.Mathlib.Nat.{not-suc-le-zero}
+use Prim.Native.Nat.{ℕ, _+_, _*_, _<_, _≤_}
 use native.Mathlib.Decide.{ℕ-discrete}
 use native.Mathlib.Omega.{arith}
 use lib.IntN.{ℤ, pos}
@@ -23,9 +24,8 @@ use lib.ListN.{length, take}
 use Rattle.integers.proofs.Integer.{linear, negation}
 use Rattle.graphs.specs.Graph.{Graph, graphOf, rules}
 use Rattle.graphs.specs.Limits.{EndsKept, DelaysKept, Sized}
-use Rattle.graphs.specs.Refusal.{First, given, passed, accepted, Lowest}
-use Rattle.graphs.proofs.Below.{below-next}
-use Rattle.graphs.proofs.Unique.{stable, known-ends, ends-kept, inside-delays, delays-kept, counts-not-outside}
+use Rattle.graphs.specs.Refusal.{First, given, passed, accepted}
+use Rattle.graphs.proofs.Unique.{none-lowest, stable, known-ends, ends-kept, inside-delays, delays-kept, counts-not-outside}
 use Rattle.faults.specs.Faults.{InsideDelays}
 use Rattle.separation.specs.Promise as analysis
 use Rattle.separation.specs.Promise.{source-missing, target-missing}
@@ -55,12 +55,6 @@ use Rattle.processes.proofs.Exactly.{rule-at-place}
 use Rattle.processes.proofs.Occurrences.{occurrence-below}
 
 -- ---- a process graph that is kept
-
--- the least counterexample: at n, nothing below n is A, so if n were A it would be the lowest
-pub none-lowest : (A : ℕ → Type 0) → ((p : ℕ) → Lowest A p → ⊥) → (n i : ℕ) → i < n → A i → ⊥
-none-lowest A none zero i l a = absurd (not-suc-le-zero l)
-none-lowest A none (suc n) i l a =
-    below-next (λ (x : ℕ). A x → ⊥) n (none-lowest A none n) (λ h. none n (record { holds = h; lowest = none-lowest A none n })) i l a
 
 abbrev pub plain : ProcessGraph → Graph
 plain g = graphOf (g .events) (g .sources) (g .targets) (g .leasts) (g .mosts)
@@ -210,28 +204,46 @@ module _ {g : ProcessGraph} {K : ℕ} {graph : Graph} (kept : Kept g K) (unfolds
         delays = λ i l. rule-sized i l .1;
       }
 
--- a graph that passes 1, 2 and 3, asked about two of its events
-past-4 : {graph : Graph} {s t j p : ℕ} → Sized 1000000 graph → s < graph .events → t < graph .events → analysis.Verdict graph s t ⊥ j p → (j ≡ 0) ⊎ ((j ≡ 5) ⊎ (j ≡ 6))
-past-4 sized hs ht (given a) = absurd (⊎-elim (counts-not-outside (sized .counts)) (λ no. no) (a .holds))
-past-4 sized hs ht (passed n1 (given {p = p} a)) = absurd (ends-kept (sized .ends p (a .holds .is-rule)) (a .holds))
-past-4 sized hs ht (passed n1 (passed n2 (given {p = p} a))) = absurd (delays-kept (sized .delays p (a .holds .is-rule)) (a .holds))
-past-4 sized hs ht (passed n1 (passed n2 (passed n3 (given (source-missing l))))) = absurd (let no : ⊥ = omega arith in no)
-past-4 sized hs ht (passed n1 (passed n2 (passed n3 (given (target-missing k l))))) = absurd (let no : ⊥ = omega arith in no)
-past-4 sized hs ht (passed n1 (passed n2 (passed n3 (passed n4 (given a))))) = inr (inl refl)
-past-4 sized hs ht (passed n1 (passed n2 (passed n3 (passed n4 (passed n5 (given a)))))) = inr (inr refl)
-past-4 sized hs ht (passed n1 (passed n2 (passed n3 (passed n4 (passed n5 (passed n6 accepted)))))) = inl refl
+-- a rule that applies nowhere leaves the verdict to those after it
+pub first-rest : {k : ℕ} {At : ℕ → Type 0} {Rest : ℕ → ℕ → Type 0} {j p : ℕ} → ((q : ℕ) → At q → ⊥) → First k At Rest j p → Rest j p
+first-rest {p = p} none (given a) = absurd (none p a)
+first-rest none (passed n r) = r
 
--- demand 2: "An accepted unfolding handed to the analysis is refused there only with 5 or 6"
-pub only-5-or-6 : {g : ProcessGraph} {K : ℕ} {graph : Graph} → Kept g K → Unfolds g K graph → {s t j p : ℕ} → s < graph .events → t < graph .events → analysis.Verdict graph s t ⊥ j p → (j ≡ 0) ⊎ ((j ≡ 5) ⊎ (j ≡ 6))
-only-5-or-6 kept unfolds hs ht v = past-4 (unfolded-sized kept unfolds) hs ht v
+no-missing-end : {graph : Graph} {s t : ℕ} → s < graph .events → t < graph .events → (p : ℕ) → analysis.MissingEnd graph s t p → ⊥
+no-missing-end hs ht p (source-missing l) = omega arith
+no-missing-end hs ht p (target-missing k l) = omega arith
 
-pub handed-on : {g : ProcessGraph} {K : ℕ} {Short : Type 0} {a : Unfolded} {ss₀ ts₀ : List ℕ} {ds₀ Ds₀ : List ℤ} {ss ts : List ℕ} {ds Ds : List ℤ}
-    → Answered g K Short a → a .refusal ≡ 0 → Written g K a ss₀ ts₀ ds₀ Ds₀ ss ts ds Ds
-    → {s t j p : ℕ} → s < a .events → t < a .events
-    → analysis.Verdict (graphOf (a .events) (take (a .rules) ss) (take (a .rules) ts) (take (a .rules) ds) (take (a .rules) Ds)) s t ⊥ j p
-    → (j ≡ 0) ⊎ ((j ≡ 5) ⊎ (j ≡ 6))
-handed-on {g} {K} {ss = ss} {ts} {ds} {Ds} answered zero-refusal written {s} {t} {j} {p} hs ht v =
-    let (kept, _) = kept-of (answered .verdict) zero-refusal in
-    let here : Unfolds g K (graphOf (1 + g .events * K) (take (templates g * K) ss) (take (templates g * K) ts) (take (templates g * K) ds) (take (templates g * K) Ds)) = written .unfolds zero-refusal in
-    let unfolds = subst₂ (λ (n r : ℕ). Unfolds g K (graphOf n (take r ss) (take r ts) (take r ds) (take r Ds))) (sym (answered .event-count zero-refusal)) (sym (answered .rule-count zero-refusal)) here in
-    only-5-or-6 kept unfolds hs ht v
+-- a graph that passes 1, 2 and 3, asked about two of its events: what comes after 4 decides
+pub past-4 : {graph : Graph} {s t : ℕ} {Short : Type 0} {Rest : ℕ → ℕ → Type 0} {j p : ℕ}
+    → Sized 1000000 graph → (Short → ⊥) → s < graph .events → t < graph .events → analysis.InputVerdict graph s t Short Rest j p → Rest j p
+past-4 sized room hs ht v =
+    first-rest (no-missing-end hs ht)
+    (first-rest (λ p a. delays-kept (sized .delays p (a .holds .is-rule)) (a .holds))
+    (first-rest (λ p a. ends-kept (sized .ends p (a .holds .is-rule)) (a .holds))
+    (first-rest (λ p a. ⊎-elim (counts-not-outside (sized .counts)) room (a .holds)) v)))
+
+path-number : {graph : Graph} {j p : ℕ} → analysis.PathVerdict graph j p → (j ≡ 0) ⊎ ((j ≡ 5) ⊎ (j ≡ 6))
+path-number (given a) = inr (inl refl)
+path-number (passed n5 (given a)) = inr (inr refl)
+path-number (passed n5 (passed n6 accepted)) = inl refl
+
+-- demand 2, of an accepted unfolding that is handed to the analysis
+pub only-5-or-6 : {g : ProcessGraph} {K : ℕ} {graph : Graph} → Kept g K → Unfolds g K graph → {s t : ℕ} {Short : Type 0} {j p : ℕ}
+    → (Short → ⊥) → s < graph .events → t < graph .events → analysis.Verdict graph s t Short j p → (j ≡ 0) ⊎ ((j ≡ 5) ⊎ (j ≡ 6))
+only-5-or-6 kept unfolds room hs ht v = path-number (past-4 (unfolded-sized kept unfolds) room hs ht v)
+
+module _ {g : ProcessGraph} {K : ℕ} {Short : Type 0} {a : Unfolded} {ss₀ ts₀ : List ℕ} {ds₀ Ds₀ : List ℤ} {ss ts : List ℕ} {ds Ds : List ℤ}
+    (answered : Answered g K Short a) (not-refused : a .refusal ≡ 0) (written : Written g K a ss₀ ts₀ ds₀ Ds₀ ss ts ds Ds) where
+  pub handed : (Kept g K) × Unfolds g K (graphOf (a .events) (take (a .rules) ss) (take (a .rules) ts) (take (a .rules) ds) (take (a .rules) Ds))
+  handed =
+      let here : Unfolds g K (graphOf (1 + g .events * K) (take (templates g * K) ss) (take (templates g * K) ts) (take (templates g * K) ds) (take (templates g * K) Ds)) = written .unfolds not-refused in (
+        kept-of (answered .verdict) not-refused .0,
+        subst₂ (λ (n r : ℕ). Unfolds g K (graphOf n (take r ss) (take r ts) (take r ds) (take r Ds))) (sym (answered .event-count not-refused)) (sym (answered .rule-count not-refused)) here,
+      )
+
+  pub handed-on : {s t : ℕ} {Short′ : Type 0} {j p : ℕ} → (Short′ → ⊥) → s < a .events → t < a .events
+      → analysis.Verdict (graphOf (a .events) (take (a .rules) ss) (take (a .rules) ts) (take (a .rules) ds) (take (a .rules) Ds)) s t Short′ j p
+      → (j ≡ 0) ⊎ ((j ≡ 5) ⊎ (j ≡ 6))
+  handed-on room hs ht v =
+      let (kept, unfolds) = handed in
+      only-5-or-6 kept unfolds room hs ht v

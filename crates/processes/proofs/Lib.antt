@@ -2,6 +2,7 @@
 pub mod Numbers
 pub mod Exactly
 pub mod Occurrences
+pub mod Cycles
 pub mod Handed
 pub mod Unique
 pub mod Products

@@ -7,7 +7,8 @@
 --     occurrence g k u      == occurrence k of process event u: number 1 + k × p + i for event i
 --     Node, number          == the root or an occurrence, and its number in the event graph: the root's is 0
 --     Instance g k j u v d D == the rule that template j gives at k: from u to v with delay [d, D]
---     Rules g K u v d D     == R of the report, cut off at K: u to v [d, D] is the instance of some template at some k below K
+--     Rules g K u v d D     == 01's list, by the target's occurrence: u to v [d, D] is the instance of some template at some k below K
+--     R g K u v d D         == R of the report, by the source's occurrence, cut off at K
 -- `Event` is a process event's number and `Occurrence` an occurrence's: neither stands for the other. Assumes nothing.
 use mathlib.Core.Path.{_≡_}
 use mathlib.Core.List.{List}
@@ -69,10 +70,18 @@ pub data Instance (g : ProcessGraph) (k j : ℕ) : Node → Node → ℤ → ℤ
   -- "mark 1 and k = 0: a start rule from the root to occurrence 0 of the target, with delay [0, 0]"
   start : mark g j ≡ 1 → k ≡ 0 → Instance g k j root (at (occurrence g k (target g j))) (pos 0) (pos 0)
 
--- R of section 2.2, cut off at K
+-- "Rules are written for k = 0, then 1, and so on; within one k, one rule per template", up to K − 1
 pub record Rules (g : ProcessGraph) (K : ℕ) (u v : Node) (d D : ℤ) : Type 0 where
   pub k : ℕ
   pub k-below : k < K
   pub template : ℕ
   pub is-template : template < templates g
   pub instance : Instance g k template u v d D
+
+-- report, section 2.2: "R = {⟨u_k, v_{k+ε}, [d, D]⟩ | ⟨u, v, [d, D], ε⟩ ∈ R′, k ≥ 0} ∪ {⟨root, v_0, [d, D]⟩ | ⟨u, v, [d, D], 1⟩ ∈ R′}". Cut off at K: of these
+-- rules the ones that lead to an occurrence below K. The marks of g are ε, its templates R′
+pub data R (g : ProcessGraph) (K : ℕ) : Node → Node → ℤ → ℤ → Type 0 where
+  -- "instantiating each rule template of R′ at each occurrence index"
+  instantiated : (j k : ℕ) → j < templates g → k + mark g j < K → R g K (at (occurrence g k (source g j))) (at (occurrence g (k + mark g j) (target g j))) (least g j) (most g j)
+  -- "special startup rules for each rule in R′ with ε = 1. The delay values for these rules are additional inputs": in 01 they are [0, 0]
+  startup : (j : ℕ) → j < templates g → mark g j ≡ 1 → 0 < K → R g K root (at (occurrence g 0 (target g j))) (pos 0) (pos 0)

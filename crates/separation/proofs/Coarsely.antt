@@ -7,7 +7,6 @@
 -- Assumes nothing.
 use mathlib.Core.Path.{_≡_, refl, sym, subst, subst₂, _∙_}
 use mathlib.Core.Bool.{true, false, true≢false}
-use mathlib.Core.Logic.{⊎-elim}
 use mathlib.Core.List.{List}
 use Prim.Native.Nat.{ℕ, _<_, _≤_}
 use native.Mathlib.Omega.{arith}
@@ -17,7 +16,6 @@ use lib.Seq.{length-take-le, getD-take}
 use Rattle.graphs.specs.Graph.{Graph, graphOf, rules}
 use Rattle.graphs.specs.Limits.{Sized, EventGraph}
 use Rattle.graphs.specs.Refusal.{First, given, passed, Accepted, Lowest, Unreached}
-use Rattle.graphs.proofs.Rank.{rank-of}
 use Rattle.executions.specs.Separation.{Separation, SameRules}
 use Rattle.executions.proofs.Same.{same-exchanged, path-same, cycle-same, depth-same}
 use Rattle.executions.proofs.Schedules.{separation-of}
@@ -27,7 +25,7 @@ use Rattle.separation.specs.declared.Answer.{Answer}
 use Rattle.separation.specs.Promise.{InputVerdict, PathVerdict, Nothing}
 use Rattle.separation.specs.Coarse.{StepOutside, CoarseFound, CoarseAnswered}
 use Rattle.separation.specs.Analysis.{InputKept, InputChecked, Computed, Analysed}
-use Rattle.separation.proofs.Verdicts.{input-refused, input-passed}
+use Rattle.separation.proofs.Verdicts.{input-refused, input-passed, step-kept}
 use Rattle.separation.proofs.Exact.{verdict-short}
 
 module _ {q n : ℕ} {ss ts : List ℕ} {ds Ds : List ℤ} (low high : List ℤ) (sized : Sized 1000000 (graphOf n ss ts ds Ds)) (low-long : length ss ≤ length low) (high-long : length ss ≤ length high) where
@@ -67,10 +65,6 @@ module _ {g h : Graph} (same : SameRules g h) where
 
 -- ---- the answers
 
-step-kept : {q : ℕ} → 1 ≤ q → q ≤ 1000 → (p : ℕ) → StepOutside q p → ⊥
-step-kept {q} positive small p o =
-    ⊎-elim (λ (e : q ≡ 0). let no : ⊥ = omega arith in no) (λ (l : 1000 < q). let no : ⊥ = omega arith in no) (o .outside)
-
 not-short : _≡_ false true → ⊥
 not-short e = true≢false (sym e)
 
@@ -94,7 +88,6 @@ module _ {g : Graph} {q s t : ℕ} {a : Answer} where
     coarse-found c =
         let same = rounded .same in
         let eh : EventGraph 1000999 h = record { sized = rounded-sized (kept .sized) small rounded; acyclic = c .acyclic; reachable = c .reachable } in
-        let r = rank-of h (eh .sized .ends) (eh .acyclic) in
         let hs : s < h .events = omega (arith, kept .source-known, same .events-same) in
         let ht : t < h .events = omega (arith, kept .target-known, same .events-same) in
         record {
@@ -112,7 +105,7 @@ module _ {g : Graph} {q s t : ℕ} {a : Answer} where
               record {
                 graph = h;
                 rounded = rounded;
-                greatest = subst (Separation h s t) (sym (c .at-target)) (separation-of eh (r .0) (r .1) hs (c .found .steps) t ht);
+                greatest = subst (Separation h s t) (sym (c .at-target)) (separation-of eh hs (c .found .steps) t ht);
               };
           depth-of-source = depth-same same (c .depth-of-source);
           depth-of-target = depth-same same (c .depth-of-target);

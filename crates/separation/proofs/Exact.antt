@@ -17,9 +17,9 @@ use lib.ListN.{length}
 use Rattle.graphs.specs.Graph.{Graph, graphOf, rules}
 use Rattle.graphs.specs.Limits.{EventGraph}
 use Rattle.graphs.specs.Refusal.{First, given, passed}
-use Rattle.graphs.proofs.Rank.{rank-of}
 use Rattle.executions.specs.Separation.{Separation}
-use Rattle.executions.proofs.Schedules.{separation-of, schedule-of}
+use Rattle.executions.specs.Schedule.{Latest}
+use Rattle.executions.proofs.Schedules.{separation-of, greatest-delay-of, schedule-of}
 use Rattle.separation.specs.declared.Answer.{Answer}
 use Rattle.separation.specs.Promise.{InputVerdict, Found, Answered, Written, at}
 use Rattle.separation.specs.Analysis.{InputKept, InputChecked, Computed, Analysed}
@@ -56,13 +56,11 @@ module _ {g : Graph} {s t : ℕ} {Short : Type 0} {a : Answer} where
     found-of : Computed g s t latest a → Found g s t a
     found-of c =
         let eg : EventGraph 1000000 g = graph-of c in
-        let r = rank-of g (eg .sized .ends) (eg .acyclic) in
         record {
           graph = eg;
           source-known = kept .source-known;
           target-known = kept .target-known;
-          greatest =
-              subst (Separation g s t) (sym (c .at-target)) (separation-of eg (r .0) (r .1) (kept .source-known) (c .found .steps) t (kept .target-known));
+          greatest = subst (Separation g s t) (sym (c .at-target)) (separation-of eg (kept .source-known) (c .found .steps) t (kept .target-known));
           depth-of-source = c .depth-of-source;
           depth-of-target = c .depth-of-target;
         }
@@ -88,11 +86,11 @@ pub lists-written : {n : ℕ} {ss ts : List ℕ} {ds Ds : List ℤ} {s t : ℕ} 
     Filled n (TimeAt latest) times₀ times → length times ≡ length times₀ →
     Filled (length ss) (DelayAt ss ts Ds times) delays₀ delays → length delays ≡ length delays₀ →
     Written (graphOf n ss ts ds Ds) s a times₀ delays₀ times delays
-lists-written {n} {ss} {ts} {ds} {Ds} kept e c wt lt wd ld =
+lists-written {n} {ss} {ts} {ds} {Ds} {s} {latest = latest} {times = times} kept e c wt lt wd ld =
     let eg : EventGraph 1000000 (graphOf n ss ts ds Ds) = graph-of kept c in
-    let r = rank-of (graphOf n ss ts ds Ds) (eg .sized .ends) (eg .acyclic) in
+    let late : Latest (graphOf n ss ts ds Ds) s (at times) = record { u = at latest; steps = c .found .steps; times = wt .each } in
     record {
-      schedule = λ _. schedule-of eg (r .0) (r .1) (kept .source-known) (c .found .steps) (wt .each) (wd .each);
+      schedule = λ _. schedule-of eg late (kept .source-known) (λ i l. greatest-delay-of eg late l (wd .each i l));
       times-beyond = λ _. wt .beyond;
       delays-beyond = λ _. wd .beyond;
       times-kept = λ m. absurd (m e);

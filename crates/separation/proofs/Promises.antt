@@ -21,7 +21,7 @@ use Rattle.integers.specs.Within.{Within}
 use Rattle.executions.specs.Separation.{LeastSeparation, SameRules, Near, DelaysNear}
 use Rattle.executions.proofs.Nearness.{maxima-near}
 use Rattle.executions.proofs.Sizes.{exact-size}
-use Rattle.executions.proofs.Unique.{separation-unique, least-is-exchanged, schedule-times-unique, schedule-delays-unique}
+use Rattle.executions.proofs.Unique.{separation-unique, least-is-exchanged, latest-unique, greatest-delays-unique}
 use Rattle.separation.specs.declared.Answer.{Answer}
 use Rattle.separation.specs.Promise.{Verdict, Answered, Nothing, Written, at}
 use Rattle.separation.proofs.Verdicts.{verdict-unique}
@@ -92,7 +92,8 @@ module _ {g : Graph} {s t : ℕ} {Short : Type 0} {a : Answer} (p : Answered g s
       go : Dec (a .refusal ≡ 0) → times ≡ times′
       go (yes e) =
           same-list (g .events) times times′ (w .times-length ∙ sym (w′ .times-length))
-          (schedule-times-unique (p .found e .graph) (p .found e .source-known) (w .schedule e) (w′ .schedule e)) (w .times-beyond e ∙ sym (w′ .times-beyond e))
+          (latest-unique (p .found e .graph) (p .found e .source-known) (w .schedule e .times) (w′ .schedule e .times))
+          (w .times-beyond e ∙ sym (w′ .times-beyond e))
       go (no n) = w .times-kept n ∙ sym (w′ .times-kept n)
 
   pub delays-unique : delays ≡ delays′
@@ -101,7 +102,8 @@ module _ {g : Graph} {s t : ℕ} {Short : Type 0} {a : Answer} (p : Answered g s
       go : Dec (a .refusal ≡ 0) → delays ≡ delays′
       go (yes e) =
           same-list (rules g) delays delays′ (w .delays-length ∙ sym (w′ .delays-length))
-          (schedule-delays-unique (p .found e .graph) (p .found e .source-known) (w .schedule e) (w′ .schedule e)) (w .delays-beyond e ∙ sym (w′ .delays-beyond e))
+          (greatest-delays-unique (p .found e .graph) (p .found e .source-known) (w .schedule e .times) (w′ .schedule e .times) (w .schedule e .delays) (w′ .schedule e .delays))
+          (w .delays-beyond e ∙ sym (w′ .delays-beyond e))
       go (no n) = w .delays-kept n ∙ sym (w′ .delays-kept n)
 
 pub schedule-unique : {g : Graph} {s t : ℕ} {Short : Type 0} {a b : Answer} {times₀ delays₀ times delays times′ delays′ : List ℤ} →

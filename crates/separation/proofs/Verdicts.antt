@@ -3,6 +3,7 @@
 --     refusal-checked, kept-checked    what check_input answers
 --     input-refused                a refusal of the input is given, whatever would come after
 --     input-passed                 where the input is kept, what comes after decides
+--     step-kept                    where q is from 1 to 1,000, refusal 9 does not apply
 --     path-5, path-6, path-0       refusals 5 and 6, and that neither applies
 --     verdict-unique               two numbers and places that the verdict allows are equal
 -- Assumes nothing.
@@ -17,6 +18,7 @@ use Rattle.graphs.specs.Refusal.{First, given, passed, accepted, Lowest, Counts
 use Rattle.graphs.proofs.Unique.{lowest-unique, atZero-unique, first-unique, accepted-unique, counts-not-outside, ends-kept, delays-kept}
 use Rattle.separation.specs.declared.Answer.{Answer}
 use Rattle.separation.specs.Promise.{MissingEnd, source-missing, target-missing, InputVerdict, PathVerdict, Verdict, Nothing}
+use Rattle.separation.specs.Coarse.{StepOutside}
 use Rattle.separation.specs.Analysis.{Never, InputKept, InputChecked}
 
 -- ---- refusals 1 to 4
@@ -77,6 +79,12 @@ module _ {g : Graph} {s t : ℕ} {Short : Type 0} where
 
   pub input-passed : InputKept g s t Short → {Rest : ℕ → ℕ → Type 0} {j p : ℕ} → Rest j p → InputVerdict g s t Short Rest j p
   input-passed k r = past-3 (k .long-enough) (k .sized) (passed (no-missing-end (k .source-known) (k .target-known)) r)
+
+-- ---- refusal 9
+
+pub step-kept : {q : ℕ} → 1 ≤ q → q ≤ 1000 → (p : ℕ) → StepOutside q p → ⊥
+step-kept {q} positive small p o =
+    ⊎-elim (λ (e : q ≡ 0). let no : ⊥ = omega arith in no) (λ (l : 1000 < q). let no : ⊥ = omega arith in no) (o .outside)
 
 -- ---- refusals 5 and 6
 

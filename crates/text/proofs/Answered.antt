@@ -7,6 +7,7 @@
 --     pairs-unique            what two runs of it give and leave in the lent list
 --     ends-known              a text's rules name only its events
 --     written-inside          what write_pairs counts lies in the list
+--     written-length          the list keeps its length, since every output fits
 --     OneOf ks j              j is one of the numbers ks
 --     only-1-3-4-5-6-8        no other refusal is given for a text, and only-1-3-5-6-8 by the pair program
 --     never-2, never-7, never-9       so these are not
@@ -20,12 +21,12 @@ use mathlib.Core.List.{List, [], _∷_, _++_}
 use mathlib.Core.Bool.{Bool, true, false, cond}
 use Prim.Native.Nat.{ℕ, zero, suc, _+_, _<_, _≤_}
 use native.Mathlib.Nat.{not-suc-le-zero, le-of-suc-le-suc}
-use native.Mathlib.Decide.{ℕ-discrete, decLt}
+use native.Mathlib.Decide.{ℕ-discrete}
 use native.Mathlib.Omega.{arith}
 use lib.Dec.{T, eqb, eqb-refl}
 use lib.IntN.{ℤ, pos, negℤ}
 use lib.Signed.{_<ℤ_}
-use lib.ListN.{length, getD, drop, length-map, length-append}
+use lib.ListN.{length, getD, drop, length-map, length-append, length-drop}
 use Rattle.integers.specs.Within.{Within}
 use Rattle.integers.proofs.Integer.{linear, negation}
 use Rattle.graphs.specs.Graph.{Graph, rules}
@@ -40,11 +41,13 @@ use Rattle.separation.proofs.Promises.{SameValues, answers-agree, answered-exac
 use Rattle.text.specs.Grammar.{Rule, Text}
 use Rattle.text.specs.Reading.{events, sourcesOf, targetsOf, graphOfRules, TextVerdict}
 use Rattle.text.specs.Answers.{NoLists, TextAnswered, entryNumber, Entered}
-use Rattle.text.specs.Output.{ending, pairs, Lines, pairHeader, GraphVerdict, PairsVerdict, Output, table, refused, RefusedLine, PairsWritten}
-use Rattle.text.proofs.Refusals.{first-both}
+use Rattle.text.specs.Output.{ending, pairs, Lines, pairHeader, GraphVerdict, PairsVerdict, Output, table, refused, RefusedLine, ShortOutput, PairsWritten}
+use Rattle.text.specs.declared.PairsAnswer.{PairsAnswer}
+use Rattle.text.proofs.Refusals.{first-past, first-both}
 use Rattle.text.proofs.Texts.{text-unique, broken-unique}
 use Rattle.text.proofs.Unique.{verdict-unique}
 use Rattle.text.proofs.PairOrder.{lines-unique, refused-line-unique}
+use Rattle.text.proofs.Fitting.{output-fits}
 
 -- ---- the answer to a question about a text
 
@@ -105,6 +108,10 @@ graph-verdict-unique =
     (λ i p j q. first-unique (λ p q. lowest-unique)
     (λ i p j q. first-unique (λ p q. atZero-unique) (λ i p j q. first-unique (λ p q. lowest-unique) (λ i p j q. accepted-unique)))))
 
+-- an answer is its three numbers
+same-answer : {a b : PairsAnswer} → (a .refusal ≡ b .refusal) × (a .place ≡ b .place) → a .bytes ≡ b .bytes → a ≡ b
+same-answer same k = λ i. record { refusal = same .0 i; place = same .1 i; bytes = k i }
+
 module _ {bs : List ℕ} where
   one-graph : (i p j q : ℕ) → (rs : List Rule) × Text bs rs × GraphVerdict (graphOfRules rs) i p → (rs : List Rule) × Text bs rs × GraphVerdict (graphOfRules rs) j q → (i ≡ j) × (p ≡ q)
   one-graph i p j q (rs, text, u) (rs′, text′, u′) =
@@ -123,27 +130,42 @@ module _ {bs : List ℕ} where
       let (e, f) = pairs-verdict-unique v′ v in
       refused-line-unique line (subst (λ (x : ℕ). RefusedLine k x out′) f (subst (λ (x : ℕ). RefusedLine x p′ out′) e line′))
 
-  pub pairs-unique : {out₀ out out′ : List ℕ} {k k′ : ℕ} → PairsWritten bs out₀ k out → PairsWritten bs out₀ k′ out′ → (k ≡ k′) × (out ≡ out′)
-  pairs-unique {out₀} {out} {out′} {k} {k′} x y = go (decLt (length out₀) 131072)
+  pub pairs-unique : {out₀ out out′ : List ℕ} {a b : PairsAnswer} → PairsWritten bs out₀ a out → PairsWritten bs out₀ b out′ → (a ≡ b) × (out ≡ out′)
+  pairs-unique {out₀} {out} {out′} {a} {b} x y = go (ℕ-discrete (a .refusal) 0)
     where
-      go : Dec (length out₀ < 131072) → (k ≡ k′) × (out ≡ out′)
-      go (yes l) = (x .nothing l .0 ∙ sym (y .nothing l .0), x .nothing l .1 ∙ sym (y .nothing l .1))
+      same : (a .refusal ≡ b .refusal) × (a .place ≡ b .place)
+      same = first-unique (λ p q. atZero-unique) (λ i p j q. accepted-unique) (x .verdict) (y .verdict)
+
+      go : Dec (a .refusal ≡ 0) → (a ≡ b) × (out ≡ out′)
+      go (yes e) =
+          let (output, o, count, bytes) = x .written e in
+          let (output′, o′, count′, bytes′) = y .written (sym (same .0) ∙ e) in
+          let one : output ≡ output′ = output-unique o o′ in
+          (same-answer same (count ∙ ap length one ∙ sym count′), bytes ∙ ap (λ (l : List ℕ). l ++ drop (length l) out₀) one ∙ sym bytes′)
       go (no n) =
-          let (bytes, o, e, f) = x .written (omega arith) in
-          let (bytes′, o′, e′, f′) = y .written (omega arith) in
-          let same : bytes ≡ bytes′ = output-unique o o′ in
-          let count : k ≡ k′ = e ∙ ap length same ∙ sym e′ in
-          (count, f ∙ (λ i. same i ++ drop (count i) out₀) ∙ sym f′)
+          let m : b .refusal ≡ 0 → ⊥ = λ f. n (same .0 ∙ f) in
+          (same-answer same (x .no-bytes n ∙ sym (y .no-bytes m)), x .kept n ∙ sym (y .kept m))
 
 -- what is written lies in the list that is lent
-pub written-inside : {bs out₀ out : List ℕ} {k : ℕ} → PairsWritten bs out₀ k out → k ≤ length out
-written-inside {bs} {out₀} {out} {k} x = go (decLt (length out₀) 131072)
+pub written-inside : {bs out₀ out : List ℕ} {a : PairsAnswer} → PairsWritten bs out₀ a out → a .bytes ≤ length out
+written-inside {bs} {out₀} {out} {a} x = go (ℕ-discrete (a .refusal) 0)
   where
-    go : Dec (length out₀ < 131072) → k ≤ length out
-    go (yes l) = omega (arith, x .nothing l .0)
-    go (no n) =
-        let (bytes, o, e, f) = x .written (omega arith) in
-        omega (arith, e, ap length f, length-append bytes (drop k out₀))
+    go : Dec (a .refusal ≡ 0) → a .bytes ≤ length out
+    go (yes e) =
+        let (output, o, count, bytes) = x .written e in
+        omega (arith, count, ap length bytes, length-append output (drop (length output) out₀))
+    go (no n) = omega (arith, x .no-bytes n)
+
+pub written-length : {bs out₀ out : List ℕ} {a : PairsAnswer} → PairsWritten bs out₀ a out → length out ≡ length out₀
+written-length {bs} {out₀} {out} {a} x = go (ℕ-discrete (a .refusal) 0)
+  where
+    go : Dec (a .refusal ≡ 0) → length out ≡ length out₀
+    go (yes e) =
+        let (output, o, count, bytes) = x .written e in
+        let (long, _) = first-past (x .verdict) (λ h. let no : ⊥ = omega arith in no) in
+        let room : ShortOutput out₀ → ⊥ = λ short. long 0 (record { zero-place = refl; holds = short }) in
+        omega (arith, ap length bytes, length-append output (drop (length output) out₀), length-drop (length output) out₀, output-fits o)
+    go (no n) = ap length (x .kept n)
 
 -- ---- which refusals there are
 

@@ -2,7 +2,8 @@
 --     natural-one, natural-more           a number below ten is written as one digit; another as its tenth part is, and one digit more
 --     two-places, tenth-below             a number from ten on takes two places, and its tenth part one less
 --     natural-unique, integer-unique      a number is written in one way
--- The idea of the last two. A number of two digits or more has no leading zero, so all digits but the last write at least 1: they write the tenth part.
+--     natural-places, integer-places      a small number takes few places
+-- The idea of the last four. A number of two digits or more has no leading zero, so all digits but the last write at least 1: they write the tenth part.
 -- So a number below ten has one digit, and any other is its tenth part and its last digit. Assumes nothing.
 use mathlib.Core.Path.{_≡_, refl, ap, sym, _∙_, subst}
 use mathlib.Core.List.{List, [], _∷_, _++_}
@@ -13,6 +14,8 @@ use native.Mathlib.Omega.{arith}
 use lib.Dec.{lit<}
 use lib.IntN.{ℤ, pos, negsuc}
 use lib.ListN.{length, getD, length-append}
+use Rattle.integers.specs.Within.{Within}
+use Rattle.integers.proofs.Integer.{linear, negation}
 use Rattle.text.specs.Numbers.{IsDigit, Digits, none, more, valueFrom, value, Natural, Integer, plain, minus}
 
 -- ---- one digit more, at the end
@@ -163,6 +166,16 @@ same-form (suc k) x h (long l f e w) (long l′ f′ e′ w′) =
 pub natural-unique : {bs cs : List ℕ} {x : ℕ} → Natural bs x → Natural cs x → bs ≡ cs
 natural-unique {bs} {cs} {x} v w = same-form (suc x) x (omega arith) (form bs v) (form cs w)
 
+form-places : (places : ℕ) {bs : List ℕ} {x : ℕ} → 1 ≤ places → x < 10 ^ places → Form bs x → length bs ≤ places
+form-places zero l h f = absurd (not-suc-le-zero l)
+form-places (suc k) l h (short few e) = rw e (omega arith)
+form-places (suc k) {x = x} l h (long many front e w) =
+    let fewer : length front ≤ k = form-places k (omega (arith, two-places x (suc k) many h)) (tenth-below-at x k h) (form front w) in
+    rw e (rw length-append (omega arith))
+
+pub natural-places : (places : ℕ) {bs : List ℕ} {x : ℕ} → 1 ≤ places → x < 10 ^ places → Natural bs x → length bs ≤ places
+natural-places places {bs} l h w = form-places places l h (form bs w)
+
 -- ---- with a sign
 
 same-natural : {bs cs : List ℕ} {x y : ℕ} → x ≡ y → Natural bs x → Natural cs y → bs ≡ cs
@@ -185,3 +198,7 @@ same-integer e (minus v) (minus w) = ap (λ (l : List ℕ). 45 ∷ l) (same-natu
 
 pub integer-unique : {bs cs : List ℕ} {z : ℤ} → Integer bs z → Integer cs z → bs ≡ cs
 integer-unique v w = same-integer refl v w
+
+pub integer-places : {bs : List ℕ} {z : ℤ} → Within 2046000000 z → Integer bs z → length bs ≤ 11
+integer-places k (plain w) = omega (arith, natural-places 10 (omega arith) (omega (linear, k .below)) w)
+integer-places k (minus w) = omega (arith, natural-places 10 (omega arith) (omega (linear, k .above, negation (pos 2046000000))) w)

@@ -76,7 +76,7 @@ module _ {bs : List ℕ} {Short : List Rule → Type 0} where
       (passed rows
       (passed (λ q a. counts q (record { zero-place = a .zero-place; holds = record { rs = a .holds .rs; text = a .holds .text; beyond = no-lists (a .holds .beyond) } })) r))
 
-  pub counts-small : {i q : ℕ} → TextVerdict bs Short Accepted i q → i ≡ 0 → {rs : List Rule} → Text bs rs → (events rs ≤ 64) × (length rs ≤ 1024) × (Short rs → ⊥)
+  pub counts-small : {Rest : ℕ → ℕ → Type 0} {i q : ℕ} → TextVerdict bs Short Rest i q → i ≡ 0 → {rs : List Rule} → Text bs rs → (events rs ≤ 64) × (length rs ≤ 1024) × (Short rs → ⊥)
   counts-small v e {rs} text =
       let (bytes, v8) = first-past v (λ h. let no : ⊥ = omega arith in no) in
       let (rows, v1) = first-past v8 (λ h. let no : ⊥ = omega arith in no) in

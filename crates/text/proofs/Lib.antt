@@ -21,4 +21,5 @@ pub mod Tabling
 pub mod Handed
 pub mod Places
 pub mod PairOutput
+pub mod Fitting
 pub mod Answered

@@ -1,38 +1,54 @@
 -- What the pair program writes, put together from what its parts promise.
---     nothing-written       into a list that is too short
---     output-written        an output written from place 0 on
---     read-refused-written  the line of a refusal of the reader's
---     refused-written       and of one of the graph's
---     table-written         the table
+--     list-refused      into a list that is too short nothing is written
+--     output-written    an output put into a list that is long enough
+--     OutputPut         an output written from place 0 on
+--     read-refused-put  the line of a refusal of the reader's
+--     refused-put       and of one of the graph's
+--     table-put         the table
 -- Assumes nothing.
-use mathlib.Core.Path.{_≡_, refl, sym, subst, subst₂, _∙_}
+use mathlib.Core.Path.{_≡_, refl, ap, sym, subst, subst₂, _∙_}
 use mathlib.Core.List.{List, _++_}
-use Prim.Native.Nat.{ℕ, _<_, _≤_}
+use Prim.Native.Nat.{ℕ, _+_, _≤_}
 use native.Mathlib.Omega.{arith}
 use lib.IntN.{ℤ}
-use lib.ListN.{length, take}
+use lib.ListN.{length, take, drop}
 use Rattle.graphs.specs.Graph.{Graph, graphOf}
 use Rattle.graphs.specs.Limits.{EventGraph}
+use Rattle.graphs.specs.Refusal.{given, passed, accepted}
 use Rattle.separation.specs.declared.Answer.{Answer}
 use Rattle.text.specs.declared.Reading.{Reading}
 use Rattle.text.specs.Reading.{events, graphOfRules, ShortLists, ReadOff, RulesWritten}
-use Rattle.text.specs.Output.{pairs, ending, Lines, pairHeader, RefusedLine, PairsVerdict, Output, table, refused, PairsWritten}
+use Rattle.text.specs.Output.{pairs, ending, Lines, pairHeader, RefusedLine, PairsVerdict, Output, table, refused, outputPlaces, ShortOutput, PairsWritten}
 use Rattle.text.specs.Appending.{Appended}
 use Rattle.text.specs.Tables.{Filled, TableAnswered}
 use Rattle.text.proofs.Places.{place-zero}
 use Rattle.text.proofs.Handed.{handed, accepted-on, read-refused}
 
--- ---- one list of bytes
+-- ---- the lent list
 
-pub nothing-written : {bs out : List ℕ} → length out < 131072 → PairsWritten bs out 0 out
-nothing-written short = record { written = λ l. absurd (let no : ⊥ = omega arith in no); nothing = λ l. (refl, refl) }
+abbrev pub OutputPut : List ℕ → List ℕ → List ℕ → ℕ → Type 0
+OutputPut bs out₀ out k = (bytes : List ℕ) × Output bs bytes × Appended out₀ 0 bytes out k
 
-pub output-written : {bs bytes out₀ out : List ℕ} {k : ℕ} → 131072 ≤ length out₀ → Output bs bytes → Appended out₀ 0 bytes out k → PairsWritten bs out₀ k out
-output-written {bytes = bytes} room o a =
+pub list-refused : {bs out : List ℕ} → ShortOutput out → PairsWritten bs out (record { refusal = 1; place = 0; bytes = 0 }) out
+list-refused short =
     record {
-      written = λ l. (bytes, o, a .after ∙ omega arith, a .bytes);
-      nothing = λ l. absurd (let no : ⊥ = omega arith in no);
+      verdict = given (record { zero-place = refl; holds = short });
+      written = λ e. absurd (let no : ⊥ = omega arith in no);
+      no-bytes = λ n. refl;
+      kept = λ n. refl;
     }
+
+pub output-written : {bs out₀ out : List ℕ} {k : ℕ} → outputPlaces ≤ length out₀ → OutputPut bs out₀ out k → PairsWritten bs out₀ (record { refusal = 0; place = 0; bytes = k }) out
+output-written {out₀ = out₀} {out} room (bytes, o, a) =
+    let count : length bytes ≡ 0 + length bytes = omega arith in
+    record {
+      verdict = passed (λ p short. let no : ⊥ = omega (arith, short .holds) in no) accepted;
+      written = λ e. (bytes, o, a .after ∙ sym count, a .bytes ∙ ap (λ (m : ℕ). bytes ++ drop m out₀) (a .after ∙ sym count));
+      no-bytes = λ n. absurd (n refl);
+      kept = λ n. absurd (n refl);
+    }
+
+-- ---- one list of bytes
 
 not-zero : {k : ℕ} → (k ≡ 0 → ⊥) → 1 ≤ k
 not-zero n = omega arith
@@ -44,14 +60,14 @@ LineWritten j p out₀ out k = (line : List ℕ) × RefusedLine j p line × Appe
 abbrev pub TableWritten : Graph → ℕ → List ℕ → List ℕ → ℕ → Type 0
 TableWritten g n out₀ out k = (lines : List ℕ) × Lines g (pairs n) lines × Appended out₀ 0 (pairHeader ++ (ending ++ lines)) out k
 
-refusal-written : {bs out₀ out : List ℕ} {j p k : ℕ} → 131072 ≤ length out₀ → (j ≡ 0 → ⊥) → PairsVerdict bs j p → LineWritten j p out₀ out k → PairsWritten bs out₀ k out
-refusal-written {j = j} {p = p} room n v (line, is-line, a) = output-written room (refused j p (not-zero n) v is-line) a
+refusal-put : {bs out₀ out : List ℕ} {j p k : ℕ} → (j ≡ 0 → ⊥) → PairsVerdict bs j p → LineWritten j p out₀ out k → OutputPut bs out₀ out k
+refusal-put {j = j} {p = p} n v (line, is-line, a) = (line, refused j p (not-zero n) v is-line, a)
 
 -- ---- after a reading
 
 module _ {bs : List ℕ} {a : Reading} {ss₀ ts₀ : List ℕ} {ds₀ Ds₀ : List ℤ} {ss ts : List ℕ} {ds Ds : List ℤ} (w : RulesWritten bs a ss₀ ts₀ ds₀ Ds₀ ss ts ds Ds) (r : ReadOff bs (ShortLists ss₀ ts₀ ds₀ Ds₀) a) where
-  pub read-refused-written : {out₀ out : List ℕ} {k : ℕ} → 131072 ≤ length out₀ → length ss₀ ≡ 1024 → length ts₀ ≡ 1024 → length ds₀ ≡ 1024 → length Ds₀ ≡ 1024 → (a .refusal ≡ 0 → ⊥) → LineWritten (a .refusal) (a .place) out₀ out k → PairsWritten bs out₀ k out
-  read-refused-written room l₁ l₂ l₃ l₄ n line = refusal-written room n (read-refused w r l₁ l₂ l₃ l₄ n) line
+  pub read-refused-put : {out₀ out : List ℕ} {k : ℕ} → length ss₀ ≡ 1024 → length ts₀ ≡ 1024 → length ds₀ ≡ 1024 → length Ds₀ ≡ 1024 → (a .refusal ≡ 0 → ⊥) → LineWritten (a .refusal) (a .place) out₀ out k → OutputPut bs out₀ out k
+  read-refused-put l₁ l₂ l₃ l₄ n line = refusal-put n (read-refused w r l₁ l₂ l₃ l₄ n) line
 
   module _ {b : Answer} {entries : List ℤ} (e : a .refusal ≡ 0) (t : TableAnswered (graphOf (a .events) (take (a .rules) ss) (take (a .rules) ts) (take (a .rules) ds) (take (a .rules) Ds)) b entries) where
     answered : TableAnswered (graphOfRules (handed w r e .rs)) b entries
@@ -60,15 +76,15 @@ module _ {bs : List ℕ} {a : Reading} {ss₀ ts₀ : List ℕ} {ds₀ Ds₀ : L
     verdict : PairsVerdict bs (b .refusal) (b .place)
     verdict = accepted-on (r .verdict) e (handed w r e .rs, handed w r e .text, answered .verdict)
 
-    pub refused-written : {out₀ out : List ℕ} {k : ℕ} → 131072 ≤ length out₀ → (b .refusal ≡ 0 → ⊥) → LineWritten (b .refusal) (b .place) out₀ out k → PairsWritten bs out₀ k out
-    refused-written room n line = refusal-written room n verdict line
+    pub refused-put : {out₀ out : List ℕ} {k : ℕ} → (b .refusal ≡ 0 → ⊥) → LineWritten (b .refusal) (b .place) out₀ out k → OutputPut bs out₀ out k
+    refused-put n line = refusal-put n verdict line
 
-    pub table-written : {out₀ out : List ℕ} {k : ℕ} → 131072 ≤ length out₀ → b .refusal ≡ 0 → ((g : Graph) → g .events ≡ a .events → EventGraph 1000000 g → Filled g (a .events) entries → TableWritten g (a .events) out₀ out k) → PairsWritten bs out₀ k out
-    table-written room z writes =
+    pub table-put : {out₀ out : List ℕ} {k : ℕ} → b .refusal ≡ 0 → ((g : Graph) → g .events ≡ a .events → EventGraph 1000000 g → Filled g (a .events) entries → TableWritten g (a .events) out₀ out k) → OutputPut bs out₀ out k
+    table-put z writes =
         let h = handed w r e in
         let same : events (h .rs) ≡ a .events = sym (h .event-count) in
         let filled : Filled (graphOfRules (h .rs)) (a .events) entries = subst (λ (n : ℕ). Filled (graphOfRules (h .rs)) n entries) same (answered .filled z) in
         let (lines, are-lines, written) = writes (graphOfRules (h .rs)) same (answered .graph z) filled in
         let lines-of : Lines (graphOfRules (h .rs)) (pairs (events (h .rs))) lines = subst (λ (n : ℕ). Lines (graphOfRules (h .rs)) (pairs n) lines) (h .event-count) are-lines in
         let zero-verdict : PairsVerdict bs 0 0 = subst₂ (PairsVerdict bs) z (place-zero (answered .verdict) z) verdict in
-        output-written room (table (h .rs) lines zero-verdict (h .text) lines-of refl) written
+        (pairHeader ++ (ending ++ lines), table (h .rs) lines zero-verdict (h .text) lines-of refl, written)

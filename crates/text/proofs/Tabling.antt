@@ -66,7 +66,7 @@ graph-verdict {g} {s} known room =
 -- the times of the latest schedule against s
 module _ {g : Graph} {s : ℕ} {a : Answer} {times₀ delays₀ times delays : List ℤ} (known : s < g .events) (p : Answered g s s (ShortLists g times₀ delays₀) a) (w : Written g s a times₀ delays₀ times delays) where
   pub times-small : a .refusal ≡ 0 → (v : ℕ) → v < g .events → Within 1023000000 (at times v)
-  times-small e v l = times-within (p .found e .graph) (w .schedule e .execution) v l
+  times-small e v l = times-within (p .found e .graph .sized) (p .found e .graph .acyclic) (w .schedule e .execution) v l
 
   module _ (room : g .events ≤ length times₀) (room′ : rules g ≤ length delays₀) where
     enough : ShortLists g times₀ delays₀ → ⊥

@@ -29,26 +29,26 @@ valueFrom x (b ∷ bs) = valueFrom (10 * x + (b - 48)) bs
 abbrev pub value : List ℕ → ℕ
 value bs = valueFrom 0 bs
 
--- "one to seven digits; leading zeros … are accepted; event numbers take no minus"
+-- "one to seven digits; leading zeros and −0 are accepted; event numbers take no minus": not even −0 (docs/DECISIONS.md, A10)
 pub record Number (bs : List ℕ) (x : ℕ) : Type 0 where
   pub digits : Digits bs
   pub some : 1 ≤ length bs
   pub seven : length bs ≤ 7
   pub number : value bs ≡ x
 
--- "A field is an optional minus and one to seven digits; … −0 [is] accepted"
+-- "A field is an optional minus and one to seven digits; leading zeros and −0 are accepted"
 pub data Field : List ℕ → ℤ → Type 0 where
   plain : {bs : List ℕ} {x : ℕ} → Number bs x → Field bs (pos x)
   minus : {bs : List ℕ} {x : ℕ} → Number bs x → Field (45 ∷ bs) (negℤ (pos x))
 
--- "in decimal with no leading zero and no `-0`"
+-- as 01's example of the output has its numbers; 01 doesn't put it in words
 pub record Natural (bs : List ℕ) (x : ℕ) : Type 0 where
   pub digits : Digits bs
   pub some : 1 ≤ length bs
   pub number : value bs ≡ x
   pub no-leading-zero : 1 < length bs → getD bs 0 0 ≡ 48 → ⊥
 
--- negsuc x is −(x + 1)
+-- the same with a minus (docs/DECISIONS.md, A26); negsuc x is −(x + 1)
 pub data Integer : List ℕ → ℤ → Type 0 where
   plain : {bs : List ℕ} {x : ℕ} → Natural bs x → Integer bs (pos x)
   minus : {bs : List ℕ} {x : ℕ} → Natural bs (suc x) → Integer (45 ∷ bs) (negsuc x)

@@ -7,21 +7,25 @@
 --     GraphVerdict g        == the refusals of a graph alone, as the analysis has them
 --     PairsVerdict bs       == the refusals of the pair program
 --     Output bs out         == out is what the pair program writes for the text bs
---     PairsWritten …        == out, which held out₀, holds the output in its first k places; or it is too short, k is 0 and nothing is written
--- Every line ends in CR LF, `ending`. Assumes nothing.
+--     outputPlaces          == how many places a lent list needs for the output: every output fits (`output-fits`, proofs/Fitting.antt)
+--     ShortOutput out₀      == the lent list out₀ is too short
+--     PairsWritten …        == out, which held out₀, holds the output, and a is the answer: the refusal of the lent list, or how many bytes were written
+-- Every line ends in CR LF, `ending`. A text that is refused has an output too, its one line; so the answer's refusal is about the lent list alone. Assumes
+-- nothing.
 use mathlib.Core.Path.{_≡_}
 use mathlib.Core.List.{List, [], _∷_, _++_, map}
 use Prim.Native.Nat.{ℕ, zero, suc, _-_, _<_, _≤_}
 use lib.IntN.{ℤ}
 use lib.ListN.{length, drop}
 use Rattle.graphs.specs.Graph.{Graph}
-use Rattle.graphs.specs.Refusal.{First, AtZero, Lowest, CountsOutside, UnknownEvent, DelayOutside}
+use Rattle.graphs.specs.Refusal.{First, Accepted, AtZero, Lowest, CountsOutside, UnknownEvent, DelayOutside}
 use Rattle.executions.specs.Separation.{Separation, LeastSeparation}
 use Rattle.separation.specs.Promise.{PathVerdict}
 use Rattle.text.specs.Numbers.{Natural, Integer}
 use Rattle.text.specs.Grammar.{Rule, Text}
 use Rattle.text.specs.Reading.{TextVerdict, events, graphOfRules}
 use Rattle.text.specs.Answers.{NoLists}
+use Rattle.text.specs.declared.PairsAnswer.{PairsAnswer}
 
 pub record Pair : Type 0 where
   pub from : ℕ
@@ -98,7 +102,16 @@ pub data Output (bs out : List ℕ) : Type 0 where
   table : (rs : List Rule) (lines : List ℕ) → PairsVerdict bs 0 0 → Text bs rs → Lines (graphOfRules rs) (pairs (events rs)) lines → out ≡ pairHeader ++ (ending ++ lines) → Output bs out
   refused : (k p : ℕ) → 1 ≤ k → PairsVerdict bs k p → RefusedLine k p out → Output bs out
 
--- "a lent output list is too short": 131,072 places are enough for every table
-pub record PairsWritten (bs out₀ : List ℕ) (k : ℕ) (out : List ℕ) : Type 0 where
-  pub written : 131072 ≤ length out₀ → (bytes : List ℕ) × Output bs bytes × (k ≡ length bytes) × (out ≡ bytes ++ drop k out₀)
-  pub nothing : length out₀ < 131072 → (k ≡ 0) × (out ≡ out₀)
+abbrev pub outputPlaces : ℕ
+outputPlaces = 131072
+
+-- "a lent output list is too short"
+abbrev pub ShortOutput : List ℕ → Type 0
+ShortOutput out₀ = length out₀ < outputPlaces
+
+-- "A refusal returns its number and place … and every lent list keeps its contents"; "places beyond keep what they held"
+pub record PairsWritten (bs out₀ : List ℕ) (a : PairsAnswer) (out : List ℕ) : Type 0 where
+  pub verdict : First 1 (AtZero (ShortOutput out₀)) Accepted (a .refusal) (a .place)
+  pub written : a .refusal ≡ 0 → (output : List ℕ) × Output bs output × (a .bytes ≡ length output) × (out ≡ output ++ drop (length output) out₀)
+  pub no-bytes : (a .refusal ≡ 0 → ⊥) → a .bytes ≡ 0
+  pub kept : (a .refusal ≡ 0 → ⊥) → out ≡ out₀

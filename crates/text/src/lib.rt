@@ -5,10 +5,14 @@
 //     write_pairs          what the pair program writes for a text
 // No caller is trusted. The grammar is in specs/Grammar.antt, the promises are in specs/Reading.antt, Answers.antt and Output.antt.
 ghost use mathlib.Core.Path.{_≡_};
+ghost use mathlib.Core.List.{List};
+ghost use Prim.Native.Nat.{ℕ, _≤_};
+ghost use lib.ListN.{length};
 ghost use Rattle.separation.specs.Promise.{Nothing};
 ghost use Rattle.text.specs.Reading.{ReadOff, RulesWritten, ShortLists};
 ghost use Rattle.text.specs.Answers.{TextAnswered};
-ghost use Rattle.text.specs.Output.{PairsWritten};
+ghost use Rattle.text.specs.Output.{Output, outputPlaces, PairsWritten};
+ghost use Rattle.text.specs.Appending.{Appended};
 
 mod fields;
 mod lines;
@@ -33,6 +37,14 @@ pub struct Reading {
     pub place: usize,
     pub events: usize,
     pub rules: usize,
+}
+
+// The answer to a writing of the pairs. `refusal` is 0, or 1 for a lent list that is too short, with its place; `bytes` counts what was written. A text
+// that is refused is none of its refusals: the line that says so is what was written.
+pub struct PairsAnswer {
+    pub refusal: usize,
+    pub place: usize,
+    pub bytes: usize,
 }
 
 // The rules of a text, written into the four lent lists. Places beyond keep what they held; refused, all do.
@@ -103,14 +115,11 @@ pub fn text_separation(text: &[u8], s: usize, t: usize) -> Answer
     )
 }
 
-// What the pair program writes for a text, into a lent list of at least 131,072 places; gives the number of bytes. In a shorter list nothing is written,
-// and it gives 0.
-pub fn write_pairs(text: &[u8], out: &mut [u8]) -> usize
-    ensures { λ r. ⌜ PairsWritten (now (text .entry)) (now (out .entry)) r (now (out .exit)) ⌝ }
+// What the pair program writes for a text, into a lent list that is long enough; gives the number of bytes.
+fn put_output(text: &[u8], out: &mut [u8]) -> usize
+    requires { ⌜ outputPlaces ≤ length (now out) ⌝ }
+    ensures { λ r. ⌜ ((bytes : List ℕ) × Output (now (text .entry)) bytes × Appended (now (out .entry)) 0 bytes (now (out .exit)) r) ⌝ }
 {
-    if out.len() < 131072 {
-        return 0;
-    }
     let mut sources = [0usize; 1024];
     let mut targets = [0usize; 1024];
     let mut leasts = [0i64; 1024];
@@ -133,4 +142,23 @@ pub fn write_pairs(text: &[u8], out: &mut [u8]) -> usize
         return put_refusal(out, answer.refusal, answer.place);
     }
     put_pairs(out, found.events, &table)
+}
+
+// What the pair program writes for a text, into a lent list of at least 131,072 places. A shorter list is refused, and keeps what it held.
+pub fn write_pairs(text: &[u8], out: &mut [u8]) -> PairsAnswer
+    ensures { λ r. ⌜ PairsWritten (now (text .entry)) (now (out .entry)) r (now (out .exit)) ⌝ }
+{
+    if out.len() < 131072 {
+        return PairsAnswer {
+            refusal: 1,
+            place: 0,
+            bytes: 0,
+        };
+    }
+    let bytes = put_output(text, out);
+    PairsAnswer {
+        refusal: 0,
+        place: 0,
+        bytes: bytes,
+    }
 }

@@ -7,7 +7,7 @@ ghost use Rattle.integers.specs.Within.{Within};
 ghost use Rattle.graphs.specs.Graph.{Graph};
 ghost use Rattle.graphs.specs.Limits.{EventGraph};
 ghost use Rattle.text.specs.Appending.{Appended};
-ghost use Rattle.text.specs.Output.{RefusedLine, Lines, pairs, pairsFrom, pairHeader, ending};
+ghost use Rattle.text.specs.Output.{RefusedLine, Lines, pairs, pairsFrom, pairHeader, ending, outputPlaces};
 ghost use Rattle.text.specs.Tables.{Filled};
 ghost use Rattle.text.specs.TableLines.{LineOf, TableLines, SmallEntries};
 use crate::numerals::put_byte;
@@ -23,7 +23,7 @@ const ROW: usize = 64;
 
 // The line of a refusal.
 pub(crate) fn put_refusal(out: &mut [u8], refusal: usize, place: usize) -> usize
-    requires { ⌜ (131072 ≤ length (now out)) × (refusal < 10) × (place < 100000) ⌝ }
+    requires { ⌜ (outputPlaces ≤ length (now out)) × (refusal < 10) × (place < 100000) ⌝ }
     ensures { λ r. ⌜ ((bs : List ℕ) × RefusedLine refusal place bs × Appended (now (out .entry)) 0 bs (now (out .exit)) r) ⌝ }
 {
     let word = put_bytes(out, 0, b"refused,");
@@ -66,7 +66,7 @@ fn put_pairs_from(out: &mut [u8], at: usize, n: usize, from: usize, table: &[i64
 
 // The header and the line of every pair.
 pub(crate) fn put_pairs(out: &mut [u8], n: usize, table: &[i64]) -> usize
-    requires { ⌜ (131072 ≤ length (now out)) × (n ≤ 64) × (length (now table) ≡ 4096) ⌝ }
+    requires { ⌜ (outputPlaces ≤ length (now out)) × (n ≤ 64) × (length (now table) ≡ 4096) ⌝ }
     requires { ⌜ ((g : Graph) × (g .events ≡ n) × EventGraph 1000000 g × Filled g n (now table)) ⌝ }
     ensures { λ r. ⌜ ((g : Graph) → g .events ≡ n → EventGraph 1000000 g → Filled g n (now (table .entry)) → (bs : List ℕ) × Lines g (pairs n) bs × Appended (now (out .entry)) 0 (pairHeader ++ (ending ++ bs)) (now (out .exit)) r) ⌝ }
 {

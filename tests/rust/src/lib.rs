@@ -9,6 +9,7 @@
 //! | `small_graphs` | the second program's inputs |
 //! | `graphs`, `texts` | the tests' inputs |
 //! | `random` | numbers from a seed |
+//! | `programs` | programs run as processes |
 //!
 //! `all_delays` shares nothing with `plain` and nothing with the analyser.
 
@@ -17,6 +18,7 @@ pub mod graphs;
 pub mod library;
 pub mod plain;
 pub mod plain_text;
+pub mod programs;
 pub mod random;
 pub mod small_graphs;
 pub mod texts;

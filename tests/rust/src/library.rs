@@ -336,9 +336,26 @@ pub fn unfold(p: usize, copies: usize, templates: Templates, out: &mut Written) 
 
 #[cfg(feature = "text")]
 mod on_text {
+    use super::HELD;
+
     extern "C" {
         fn crankforest_separation(text: *const u8, length: usize, s: usize, t: usize) -> i64;
-        fn crankforest_pairs(text: *const u8, length: usize, out: *mut u8, out_length: usize) -> usize;
+        fn crankforest_pairs(
+            text: *const u8,
+            length: usize,
+            out: *mut u8,
+            out_length: usize,
+            place: *mut usize,
+            bytes: *mut usize,
+        ) -> usize;
+    }
+
+    /// The answer to a writing of the pairs. `refusal` is 0 where the lent list is long enough, whatever the text.
+    #[derive(Clone, Copy, Debug, PartialEq, Eq)]
+    pub struct PairsAnswer {
+        pub refusal: usize,
+        pub place: usize,
+        pub bytes: usize,
     }
 
     /// The separation that the text's graph has, or -4,000,000,000 minus the refusal's number.
@@ -346,11 +363,22 @@ mod on_text {
         unsafe { crankforest_separation(text.as_ptr(), text.len(), s, t) }
     }
 
-    /// What the pair program writes, into `out`; the number of bytes.
-    pub fn pairs(text: &[u8], out: &mut [u8]) -> usize {
-        unsafe { crankforest_pairs(text.as_ptr(), text.len(), out.as_mut_ptr(), out.len()) }
+    /// What the pair program writes, into `out`, and the number of bytes.
+    pub fn pairs(text: &[u8], out: &mut [u8]) -> PairsAnswer {
+        let mut answer = PairsAnswer { refusal: HELD, place: HELD, bytes: HELD };
+        answer.refusal = unsafe {
+            crankforest_pairs(
+                text.as_ptr(),
+                text.len(),
+                out.as_mut_ptr(),
+                out.len(),
+                &mut answer.place,
+                &mut answer.bytes,
+            )
+        };
+        answer
     }
 }
 
 #[cfg(feature = "text")]
-pub use on_text::{pairs, separation};
+pub use on_text::{pairs, separation, PairsAnswer};

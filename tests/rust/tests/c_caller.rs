@@ -1,16 +1,18 @@
-//! The C caller, caller.c: compiled by gcc against include/crankforest.h, linked with the archive that these tests link, and run.
+//! The C caller, caller.c: compiled by gcc, or what the environment's CC names, against include/crankforest.h, linked with the archive that these tests link, and run.
 
+use crankforest_tests::programs;
+use std::env;
 use std::path::{Path, PathBuf};
 use std::process::Command;
 
 /// How many checks caller.c makes, without the entries on text and of them.
 const CHECKS: usize = 170;
-const TEXT_CHECKS: usize = 8;
+const TEXT_CHECKS: usize = 17;
 
 fn built(name: &str, warnings: &[&str]) -> PathBuf {
     let folder = Path::new(env!("CARGO_MANIFEST_DIR"));
     let program = Path::new(env!("CARGO_TARGET_TMPDIR")).join(name);
-    let mut gcc = Command::new("gcc");
+    let mut gcc = Command::new(env::var_os("CC").unwrap_or_else(|| "gcc".into()));
     gcc.args(["-std=c99", "-O1"]).args(warnings);
     if cfg!(feature = "text") {
         gcc.arg("-DTEXT_ENTRIES");
@@ -25,7 +27,7 @@ fn built(name: &str, warnings: &[&str]) -> PathBuf {
 #[test]
 fn the_c_caller_finds_all_right() {
     let program = built("caller", &["-Wall", "-Wextra", "-Werror", "-Wpedantic"]);
-    let output = Command::new(program).output().expect("the caller runs");
+    let output = programs::command(&program).output().expect("the caller runs");
     let checks = CHECKS + if cfg!(feature = "text") { TEXT_CHECKS } else { 0 };
     assert_eq!(String::from_utf8_lossy(&output.stdout), format!("{} right, 0 wrong\n", checks));
     assert!(output.status.success());

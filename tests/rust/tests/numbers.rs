@@ -1,5 +1,6 @@
 //! The library against plain Rust on random graphs, small and large, right and wrong; and demand 3's limits.
 
+use crankforest_tests::programs::cases;
 use crankforest_tests::graphs::{
     accepted, any, any_process, careless, draw_event, draw_interval, draw_length, draw_step, some_delays,
 };
@@ -45,19 +46,19 @@ fn check_cost(q: usize, exact: Answer, coarse: Answer) {
 #[test]
 fn small_graphs() {
     let mut random = Random::new(11);
-    let count = (0..40_000)
+    let count = (0..cases(40_000))
         .filter(|_| {
             let graph = any(&mut random, 12);
             compare(&mut random, &graph).refusal == 0
         })
         .count();
-    assert!(count > 15_000, "too few graphs were accepted: {}", count);
+    assert!(count > cases(15_000), "too few graphs were accepted: {}", count);
 }
 
 #[test]
 fn middle_graphs() {
     let mut random = Random::new(12);
-    for _ in 0..3_000 {
+    for _ in 0..cases(3_000) {
         let graph = any(&mut random, 200);
         compare(&mut random, &graph);
     }
@@ -137,7 +138,7 @@ fn check_execution(rules: Rules, times: &[i64], delays: &[i64]) {
 #[test]
 fn near_graphs_have_near_answers() {
     let mut random = Random::new(17);
-    for i in 0..4_000 {
+    for i in 0..cases(4_000) {
         let n = if i % 20 == 0 { 1_024 } else { 1 + random.below(40) };
         let graph = accepted(&mut random, n, 2 * n);
         let e = random.pick(&[0, 1, 2, 10, 1_000, 500_000]);
@@ -194,7 +195,7 @@ fn the_limit_of_rounding_is_met() {
 #[test]
 fn coarse_with_step_1_is_exact() {
     let mut random = Random::new(18);
-    for _ in 0..2_000 {
+    for _ in 0..cases(2_000) {
         let graph = accepted(&mut random, 20, 40);
         let (s, t) = (random.below(20), random.below(20));
         assert_eq!(library::coarse(20, graph.rules(), s, t, 1), library::exact(20, graph.rules(), s, t));
@@ -204,7 +205,7 @@ fn coarse_with_step_1_is_exact() {
 #[test]
 fn rounding_of_one_rule() {
     let mut random = Random::new(19);
-    for _ in 0..20_000 {
+    for _ in 0..cases(20_000) {
         let delays = some_delays(&mut random);
         let (least, most) = draw_interval(&mut random, delays);
         let q = 1 + random.below(1_000);
@@ -221,7 +222,7 @@ fn rounding_of_one_rule() {
 fn unfoldings() {
     let mut random = Random::new(20);
     let mut found = 0;
-    for _ in 0..20_000 {
+    for _ in 0..cases(20_000) {
         let process = any_process(&mut random);
         let needed = process.graph.sources.len().saturating_mul(process.copies);
         let lengths = [0; 4].map(|_| if random.once_in(2) { 4_100 } else { draw_length(&mut random, needed) });
@@ -232,14 +233,14 @@ fn unfoldings() {
         assert!(got == due, "the lists differ, lent {:?}: {:?}", lengths, process);
         found += usize::from(answer.refusal == 0);
     }
-    assert!(found > 7_000, "too few were accepted: {}", found);
+    assert!(found > cases(7_000), "too few were accepted: {}", found);
 }
 
 /// An unfolding is handed on to the analysis, which refuses it only with 5 or 6.
 #[test]
 fn unfoldings_handed_on() {
     let mut random = Random::new(21);
-    for _ in 0..5_000 {
+    for _ in 0..cases(5_000) {
         let process = any_process(&mut random);
         let mut out = Written::lent([4_096; 4]);
         let unfolded = library::unfold(process.graph.events, process.copies, process.templates(), &mut out);

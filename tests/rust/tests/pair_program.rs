@@ -2,11 +2,11 @@
 //! what the environment's CRANKFOREST_PAIRS names.
 
 use crankforest_tests::random::Random;
-use crankforest_tests::{plain_text, texts};
+use crankforest_tests::{plain_text, programs, texts};
 use std::env;
 use std::fs::{self, File};
 use std::path::{Path, PathBuf};
-use std::process::{Command, Stdio};
+use std::process::Stdio;
 
 fn repository() -> PathBuf {
     Path::new(env!("CARGO_MANIFEST_DIR")).join("../..")
@@ -22,7 +22,7 @@ fn program() -> PathBuf {
 /// What the program writes with this file as its standard input. It ends with status 0 and writes no error, refused or not.
 fn run(input: &Path) -> Vec<u8> {
     let file = File::open(input).expect("the input can be read");
-    let output = Command::new(program()).stdin(Stdio::from(file)).output().expect("target/bin/pairs runs");
+    let output = programs::command(&program()).stdin(Stdio::from(file)).output().expect("target/bin/pairs runs");
     assert!(output.status.success(), "{}: {}", input.display(), output.status);
     assert_eq!(output.stderr, b"", "{}", input.display());
     output.stdout
@@ -66,7 +66,7 @@ fn known_texts() {
 #[test]
 fn texts_of_any_kind() {
     let mut random = Random::new(41);
-    for _ in 0..400 {
+    for _ in 0..programs::cases(400) {
         let text = texts::any(&mut random);
         let (got, due) = (run_on("any.csv", &text), plain_text::pairs(&text));
         assert_eq!(String::from_utf8_lossy(&got), String::from_utf8_lossy(&due), "{}", shown(&text));
@@ -78,7 +78,7 @@ fn texts_of_any_kind() {
 fn a_text_that_comes_in_parts() {
     use std::io::Write;
     let text = texts::longest();
-    let mut child = Command::new(program()).stdin(Stdio::piped()).stdout(Stdio::piped()).spawn().expect("it runs");
+    let mut child = programs::command(&program()).stdin(Stdio::piped()).stdout(Stdio::piped()).spawn().expect("it runs");
     let mut input = child.stdin.take().expect("its input");
     for part in text.chunks(5_000) {
         input.write_all(part).expect("it reads");

@@ -1,5 +1,7 @@
 //! The library's two text entries: on texts with known answers, and against plain Rust on random, damaged and long texts.
 
+use crankforest_tests::library::PairsAnswer;
+use crankforest_tests::programs::cases;
 use crankforest_tests::random::Random;
 use crankforest_tests::{library, plain_text, texts};
 
@@ -13,11 +15,12 @@ fn shown(text: &[u8]) -> String {
 
 /// The bytes that the library writes for a text. `out` is lent and its later places have to keep what they held.
 fn pairs(text: &[u8], out: &mut [u8]) -> Vec<u8> {
-    out.iter_mut().for_each(|place| *place = 0xa5);
-    let length = library::pairs(text, out);
-    assert!(length <= out.len(), "{}", shown(text));
-    assert!(out[length..].iter().all(|&place| place == 0xa5), "a place beyond was written to: {}", shown(text));
-    out[..length].to_vec()
+    out.fill(0xa5);
+    let answer = library::pairs(text, out);
+    assert_eq!((answer.refusal, answer.place), (0, 0), "{}", shown(text));
+    assert!(answer.bytes <= out.len(), "{}", shown(text));
+    assert!(out[answer.bytes..].iter().all(|&place| place == 0xa5), "a place beyond was written to: {}", shown(text));
+    out[..answer.bytes].to_vec()
 }
 
 fn compare_pairs(text: &[u8], out: &mut [u8]) {
@@ -66,7 +69,7 @@ fn known_separations() {
 fn valid_texts() {
     let mut random = Random::new(31);
     let mut out = vec![0; PLACES];
-    for _ in 0..1_500 {
+    for _ in 0..cases(1_500) {
         let text = texts::valid(&mut random);
         compare(&mut random, &text, &mut out);
     }
@@ -76,7 +79,7 @@ fn valid_texts() {
 fn texts_of_any_kind() {
     let mut random = Random::new(32);
     let mut out = vec![0; PLACES];
-    for _ in 0..4_000 {
+    for _ in 0..cases(4_000) {
         let text = texts::any(&mut random);
         compare(&mut random, &text, &mut out);
     }
@@ -111,7 +114,7 @@ fn one_text_damaged_everywhere() {
 fn random_bytes() {
     let mut random = Random::new(33);
     let mut out = vec![0; PLACES];
-    for _ in 0..3_000 {
+    for _ in 0..cases(3_000) {
         let text = texts::random_bytes(&mut random);
         compare(&mut random, &text, &mut out);
     }
@@ -122,7 +125,7 @@ fn random_bytes() {
 fn long_texts() {
     let mut random = Random::new(34);
     let mut out = vec![0; PLACES];
-    for _ in 0..300 {
+    for _ in 0..cases(300) {
         let mut text = texts::longest();
         for _ in 0..random.below(3) {
             texts::damage(&mut random, &mut text);
@@ -131,13 +134,16 @@ fn long_texts() {
     }
 }
 
-/// A list that is too short for the bytes gets nothing, whatever the text.
+/// A list that is too short for the bytes is refused and keeps what it held, whatever the text.
 #[test]
 fn short_lists_for_the_bytes() {
+    let refused = PairsAnswer { refusal: 1, place: 0, bytes: 0 };
     let texts = [b"".to_vec(), b"source,target,least,most\r\n0,1,0,1\r\n".to_vec(), texts::longest()];
     for text in texts {
         for places in [0, 1, 20, PLACES - 1] {
-            assert_eq!(pairs(&text, &mut vec![0; places]), b"", "{} places", places);
+            let mut out = vec![0xa5; places];
+            assert_eq!(library::pairs(&text, &mut out), refused, "{} places", places);
+            assert_eq!(out, vec![0xa5; places], "{} places", places);
         }
         let due = plain_text::pairs(&text);
         assert_eq!(pairs(&text, &mut vec![0; PLACES]), due);
