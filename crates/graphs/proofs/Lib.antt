@@ -6,3 +6,4 @@ pub mod Paths
 pub mod Rank
 pub mod Greatest
 pub mod Unique
+pub mod Refusals

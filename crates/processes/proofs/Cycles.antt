@@ -25,7 +25,7 @@ use lib.ListN.{take}
 use Rattle.graphs.specs.Graph as event
 use Rattle.graphs.specs.Graph.{Graph, graphOf, rules}
 use Rattle.graphs.specs.Path.{Path, stay, step, steps, HasCycle}
-use Rattle.graphs.specs.Refusal.{given, passed, accepted}
+use Rattle.verdicts.specs.Verdict.{given, passed, accepted}
 use Rattle.faults.specs.Faults.{EndsKnown}
 use Rattle.separation.specs.declared.Answer.{Answer}
 use Rattle.separation.specs.Promise as analysis

@@ -24,8 +24,9 @@ use lib.ListN.{length, take}
 use Rattle.integers.proofs.Integer.{linear, negation}
 use Rattle.graphs.specs.Graph.{Graph, graphOf, rules}
 use Rattle.graphs.specs.Limits.{EndsKept, DelaysKept, Sized}
-use Rattle.graphs.specs.Refusal.{First, given, passed, accepted}
-use Rattle.graphs.proofs.Unique.{none-lowest, stable, known-ends, ends-kept, inside-delays, delays-kept, counts-not-outside}
+use Rattle.verdicts.specs.Verdict.{First, given, passed, accepted}
+use Rattle.verdicts.proofs.Verdicts.{none-lowest}
+use Rattle.graphs.proofs.Unique.{stable, known-ends, ends-kept, inside-delays, delays-kept, counts-not-outside}
 use Rattle.faults.specs.Faults.{InsideDelays}
 use Rattle.separation.specs.Promise as analysis
 use Rattle.separation.specs.Promise.{source-missing, target-missing}

@@ -18,7 +18,7 @@ use lib.ListN.{take, drop, take-append-drop}
 use lib.Seq.{ext-getD}
 use Rattle.graphs.specs.Graph as Event
 use Rattle.graphs.specs.Graph.{Graph}
-use Rattle.graphs.proofs.Unique.{lowest-unique, atZero-unique, first-unique, accepted-unique}
+use Rattle.verdicts.proofs.Verdicts.{lowest-unique, at-zero-unique, first-unique, accepted-unique}
 use Rattle.processes.specs.declared.Unfolded.{Unfolded}
 use Rattle.processes.specs.Process.{ProcessGraph, templates, number}
 use Rattle.processes.specs.Unfolding.{Verdict, Unfolds, Answered, Written}
@@ -29,7 +29,7 @@ use Rattle.processes.proofs.Exactly.{instance-unique, rule-at-place}
 
 pub unfolding-verdict-unique : {g : ProcessGraph} {K : ℕ} {Short : Type 0} {i p j q : ℕ} → Verdict g K Short i p → Verdict g K Short j q → (i ≡ j) × (p ≡ q)
 unfolding-verdict-unique =
-    first-unique (λ p q. atZero-unique)
+    first-unique (λ p q. at-zero-unique)
     (λ i p j q. first-unique (λ p q. lowest-unique)
     (λ i p j q. first-unique (λ p q. lowest-unique) (λ i p j q. first-unique (λ p q. lowest-unique) (λ i p j q. accepted-unique))))
 

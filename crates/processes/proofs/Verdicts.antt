@@ -13,9 +13,10 @@ use native.Mathlib.Omega.{arith}
 use mathlib.Core.List.{List}
 use lib.IntN.{ℤ}
 use lib.ListN.{length}
-use Rattle.graphs.specs.Refusal.{First, given, passed, accepted, AtZero, Lowest}
-use Rattle.faults.specs.Faults.{LowestOr, EndsKnown, EndUnknown, InsideDelays, DelaysInside, DelaysOutside}
-use Rattle.faults.proofs.Lowest.{lowest-bad, as-long}
+use Rattle.verdicts.specs.Verdict.{First, given, passed, accepted, AtZero, Lowest}
+use Rattle.verdicts.specs.Verdict.{LowestOr}
+use Rattle.faults.specs.Faults.{EndsKnown, EndUnknown, InsideDelays, DelaysInside, DelaysOutside}
+use Rattle.verdicts.proofs.Searches.{lowest-bad, as-long}
 use Rattle.faults.proofs.Unique as faults
 use Rattle.processes.specs.declared.Unfolded.{Unfolded}
 use Rattle.processes.specs.Process.{ProcessGraph, templates, source, target, least, most, mark}

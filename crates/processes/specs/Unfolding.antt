@@ -4,7 +4,8 @@
 --     UnknownEvent g j         == refusal 2: template j names an event that doesn't exist
 --     DelayOutside g j         == refusal 3: a delay of template j is out of range, or d > D
 --     MarkOutside g j          == refusal 7: the offset mark of template j is neither 0 nor 1
---     Verdict g K Short        == the refusals 1, 2, 3, 7, in 01's order
+--     processChecks g K Short  == the refusals 1, 2, 3, 7, in 01's order
+--     Verdict g K Short        == the first of them that applies
 --     RuleAt g k j graph i     == rule i of the graph is the instance of template j at k
 --     Unfolds g K graph        == the graph holds exactly the occurrences and rules of the unfolding, in 01's order
 --     Answered g K Short a     == a is the answer: the verdict's number and place, and both counts where nothing is refused
@@ -12,13 +13,14 @@
 -- Assumes nothing.
 use mathlib.Core.Path.{_≡_}
 use mathlib.Core.Logic.{_⊎_}
-use mathlib.Core.List.{List}
+use mathlib.Core.List.{List, [], _∷_}
 use Prim.Native.Nat.{ℕ, _+_, _*_, _<_, _≤_}
 use lib.IntN.{ℤ}
 use lib.ListN.{length, take, drop}
 use Rattle.graphs.specs.Graph as Event
 use Rattle.graphs.specs.Graph.{Graph, graphOf}
-use Rattle.graphs.specs.Refusal.{First, Accepted, AtZero, Lowest, OutsideDelays}
+use Rattle.verdicts.specs.Verdict.{Check, check, FirstOf, AtZero, Lowest}
+use Rattle.graphs.specs.Refusal.{OutsideDelays}
 use Rattle.processes.specs.declared.Unfolded.{Unfolded}
 use Rattle.processes.specs.Process.{ProcessGraph, templates, source, target, least, most, mark, Node, number, Instance}
 
@@ -54,10 +56,12 @@ pub record MarkOutside (g : ProcessGraph) (j : ℕ) : Type 0 where
   pub not-one : mark g j ≡ 1 → ⊥
 
 -- "unfolding 1, 2, 3, 7"
+abbrev pub processChecks : ProcessGraph → ℕ → Type 0 → List Check
+processChecks g K Short =
+    check 1 (AtZero (CountsOutside g K ⊎ Short)) ∷ check 2 (Lowest (UnknownEvent g)) ∷ check 3 (Lowest (DelayOutside g)) ∷ check 7 (Lowest (MarkOutside g)) ∷ []
+
 abbrev pub Verdict : ProcessGraph → ℕ → Type 0 → ℕ → ℕ → Type 0
-Verdict g K Short =
-    First 1 (AtZero (CountsOutside g K ⊎ Short))
-    (First 2 (Lowest (UnknownEvent g)) (First 3 (Lowest (DelayOutside g)) (First 7 (Lowest (MarkOutside g)) Accepted)))
+Verdict g K Short = FirstOf (processChecks g K Short)
 
 -- rule i is the instance of template j at k
 pub record RuleAt (g : ProcessGraph) (k j : ℕ) (graph : Graph) (i : ℕ) : Type 0 where

@@ -1,6 +1,6 @@
 // The checks on a process graph that are this crate's own: the counts and the offset marks.
 ghost use lib.ListN.{length};
-ghost use Rattle.faults.specs.Faults.{LowestOr};
+ghost use Rattle.verdicts.specs.Verdict.{LowestOr};
 ghost use Rattle.processes.specs.Process.{processOf};
 ghost use Rattle.processes.specs.Checks.{CountsChecked, MarkKept, MarkBroken};
 

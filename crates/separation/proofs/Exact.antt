@@ -16,7 +16,8 @@ use lib.IntN.{ℤ}
 use lib.ListN.{length}
 use Rattle.graphs.specs.Graph.{Graph, graphOf, rules}
 use Rattle.graphs.specs.Limits.{EventGraph}
-use Rattle.graphs.specs.Refusal.{First, given, passed}
+use Rattle.verdicts.proofs.Verdicts.{then-alike}
+use Rattle.graphs.proofs.Refusals.{short-alike}
 use Rattle.executions.specs.Separation.{Separation}
 use Rattle.executions.specs.Schedule.{Latest}
 use Rattle.executions.proofs.Schedules.{separation-of, greatest-delay-of, schedule-of}
@@ -39,15 +40,14 @@ second-long never = first-long (λ x. never (⊎-elim inr inl x))
 
 module _ {g : Graph} {s t : ℕ} {A B : Type 0} (f : A → B) (h : B → A) where
   pub verdict-short : {Rest : ℕ → ℕ → Type 0} {j p : ℕ} → InputVerdict g s t A Rest j p → InputVerdict g s t B Rest j p
-  verdict-short (given a) = given (record { zero-place = a .zero-place; holds = ⊎-elim inl (λ x. inr (f x)) (a .holds) })
-  verdict-short (passed n r) = passed (λ q b. n q (record { zero-place = b .zero-place; holds = ⊎-elim inl (λ x. inr (h x)) (b .holds) })) r
+  verdict-short {Rest} {j} {p} v = then-alike (short-alike f h) Rest j p v
 
   pub answered-short : {a : Answer} → Answered g s t A a → Answered g s t B a
   answered-short x = record { verdict = verdict-short (x .verdict); found = x .found; nothing = x .nothing }
 
 module _ {g : Graph} {s t : ℕ} {Short : Type 0} {a : Answer} where
   pub answered-refused : InputChecked g s t Short a → (a .refusal ≡ 0 → ⊥) → Answered g s t Short a
-  answered-refused c n = record { verdict = input-refused (c .refused n); found = λ e. absurd (n e); nothing = c .nothing }
+  answered-refused c n = record { verdict = input-refused n (c .refused n); found = λ e. absurd (n e); nothing = c .nothing }
 
   module _ {latest : List ℤ} (kept : InputKept g s t Short) where
     pub graph-of : Computed g s t latest a → EventGraph 1000000 g

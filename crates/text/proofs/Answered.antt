@@ -31,8 +31,9 @@ use Rattle.integers.specs.Within.{Within}
 use Rattle.integers.proofs.Integer.{linear, negation}
 use Rattle.graphs.specs.Graph.{Graph, rules}
 use Rattle.graphs.specs.Limits.{EndsKept}
-use Rattle.graphs.specs.Refusal.{given, passed, accepted}
-use Rattle.graphs.proofs.Unique.{depth-unique, lowest-unique, atZero-unique, first-unique, accepted-unique, ends-kept}
+use Rattle.verdicts.specs.Verdict.{given, passed, accepted}
+use Rattle.verdicts.proofs.Verdicts.{lowest-unique, at-zero-unique, first-unique, accepted-unique}
+use Rattle.graphs.proofs.Unique.{depth-unique, ends-kept}
 use Rattle.executions.proofs.Unique.{separation-unique}
 use Rattle.executions.proofs.Sizes.{exact-size}
 use Rattle.separation.specs.declared.Answer.{Answer}
@@ -71,9 +72,9 @@ module _ {bs : List ℕ} {s t : ℕ} where
   text-answered-exactly {a} x {j} {p} v =
       ⊎-elim same
       (λ past. ⊎-elim same
-      (λ past. ⊎-elim same rest (first-both (λ p q. atZero-unique) (past .0) (past .1)))
+      (λ past. ⊎-elim same rest (first-both (λ p q. at-zero-unique) (past .0) (past .1)))
       (first-both (λ p q. broken-unique) (past .0) (past .1)))
-      (first-both (λ p q. atZero-unique) (x .verdict) v)
+      (first-both (λ p q. at-zero-unique) (x .verdict) v)
     where
       same : {k : ℕ} → (a .refusal ≡ k) × (j ≡ k) × (a .place ≡ p) → (a .refusal ≡ j) × (a .place ≡ p)
       same (e, f, h) = (e ∙ sym f, h)
@@ -103,10 +104,10 @@ module _ {bs : List ℕ} {s t : ℕ} where
 
 graph-verdict-unique : {g : Graph} {i p j q : ℕ} → GraphVerdict g i p → GraphVerdict g j q → (i ≡ j) × (p ≡ q)
 graph-verdict-unique =
-    first-unique (λ p q. atZero-unique)
+    first-unique (λ p q. at-zero-unique)
     (λ i p j q. first-unique (λ p q. lowest-unique)
     (λ i p j q. first-unique (λ p q. lowest-unique)
-    (λ i p j q. first-unique (λ p q. atZero-unique) (λ i p j q. first-unique (λ p q. lowest-unique) (λ i p j q. accepted-unique)))))
+    (λ i p j q. first-unique (λ p q. at-zero-unique) (λ i p j q. first-unique (λ p q. lowest-unique) (λ i p j q. accepted-unique)))))
 
 -- an answer is its three numbers
 same-answer : {a b : PairsAnswer} → (a .refusal ≡ b .refusal) × (a .place ≡ b .place) → a .bytes ≡ b .bytes → a ≡ b
@@ -134,7 +135,7 @@ module _ {bs : List ℕ} where
   pairs-unique {out₀} {out} {out′} {a} {b} x y = go (ℕ-discrete (a .refusal) 0)
     where
       same : (a .refusal ≡ b .refusal) × (a .place ≡ b .place)
-      same = first-unique (λ p q. atZero-unique) (λ i p j q. accepted-unique) (x .verdict) (y .verdict)
+      same = first-unique (λ p q. at-zero-unique) (λ i p j q. accepted-unique) (x .verdict) (y .verdict)
 
       go : Dec (a .refusal ≡ 0) → (a ≡ b) × (out ≡ out′)
       go (yes e) =

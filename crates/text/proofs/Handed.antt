@@ -18,7 +18,7 @@ use lib.IntN.{ℤ}
 use lib.ListN.{length, take, drop, length-map, length-take}
 use lib.Seq.{take-at}
 use Rattle.graphs.specs.Graph.{Graph, graphOf}
-use Rattle.graphs.specs.Refusal.{given, passed, Accepted, accepted}
+use Rattle.verdicts.specs.Verdict.{given, passed, Accepted, accepted}
 use Rattle.separation.specs.declared.Answer.{Answer}
 use Rattle.separation.specs.Promise.{Verdict, Answered, Nothing}
 use Rattle.text.specs.declared.Reading.{Reading}

@@ -14,7 +14,7 @@ use lib.IntN.{ℤ}
 use lib.ListN.{length, take, drop}
 use Rattle.graphs.specs.Graph.{Graph, graphOf}
 use Rattle.graphs.specs.Limits.{EventGraph}
-use Rattle.graphs.specs.Refusal.{given, passed, accepted}
+use Rattle.verdicts.specs.Verdict.{given, passed, accepted}
 use Rattle.separation.specs.declared.Answer.{Answer}
 use Rattle.text.specs.declared.Reading.{Reading}
 use Rattle.text.specs.Reading.{events, graphOfRules, ShortLists, ReadOff, RulesWritten}

@@ -13,7 +13,7 @@ use Prim.Native.Nat.{ℕ, _+_, _*_, _<_, _≤_}
 use native.Mathlib.Omega.{arith}
 use lib.ListN.{length, length-append, length-map}
 use Rattle.graphs.specs.Graph.{Graph, rules}
-use Rattle.graphs.specs.Refusal.{given, passed, Accepted, accepted}
+use Rattle.verdicts.specs.Verdict.{given, passed, Accepted, accepted}
 use Rattle.text.specs.Grammar.{Rule, Text, Ended, start, ended, Broken}
 use Rattle.text.specs.Reading.{events, graphOfRules, Beyond, many-events, many-rows, TextVerdict}
 use Rattle.text.specs.Answers.{NoLists}

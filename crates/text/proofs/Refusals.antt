@@ -7,8 +7,8 @@
 use mathlib.Core.Path.{_≡_, refl}
 use mathlib.Core.Logic.{_⊎_, inl, inr}
 use Prim.Native.Nat.{ℕ}
-use Rattle.graphs.specs.Refusal.{First, given, passed}
-use Rattle.graphs.proofs.Unique.{OnePlace}
+use Rattle.verdicts.specs.Verdict.{First, given, passed}
+use Rattle.verdicts.proofs.Verdicts.{OnePlace}
 
 pub first-changed : {k : ℕ} {At At′ : ℕ → Type 0} {Rest Rest′ : ℕ → ℕ → Type 0}
     → ((p : ℕ) → At p → At′ p) → ((p : ℕ) → At′ p → At p) → ((j p : ℕ) → Rest j p → Rest′ j p)

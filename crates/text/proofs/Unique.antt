@@ -11,8 +11,8 @@ use Prim.Native.Nat.{ℕ}
 use native.Mathlib.Decide.{ℕ-discrete}
 use lib.IntN.{ℤ}
 use lib.ListN.{length}
-use Rattle.graphs.specs.Refusal.{Accepted}
-use Rattle.graphs.proofs.Unique.{OneVerdict, atZero-unique, first-unique, accepted-unique}
+use Rattle.verdicts.specs.Verdict.{Accepted}
+use Rattle.verdicts.proofs.Verdicts.{OneVerdict, at-zero-unique, first-unique, accepted-unique}
 use Rattle.text.specs.declared.Reading.{Reading}
 use Rattle.text.specs.Grammar.{Rule}
 use Rattle.text.specs.Reading.{TextVerdict, ReadOff, RulesWritten, events}
@@ -23,8 +23,8 @@ use Rattle.text.proofs.Texts.{text-unique, broken-unique}
 pub verdict-unique : {bs : List ℕ} {Short : List Rule → Type 0} {Rest : ℕ → ℕ → Type 0} → OneVerdict Rest →
     {i p j q : ℕ} → TextVerdict bs Short Rest i p → TextVerdict bs Short Rest j q → (i ≡ j) × (p ≡ q)
 verdict-unique rest =
-    first-unique (λ p q. atZero-unique)
-    (λ i p j q. first-unique (λ p q. broken-unique) (λ i p j q. first-unique (λ p q. atZero-unique) rest))
+    first-unique (λ p q. at-zero-unique)
+    (λ i p j q. first-unique (λ p q. broken-unique) (λ i p j q. first-unique (λ p q. at-zero-unique) rest))
 
 pub reading-exactly : {bs : List ℕ} {Short : List Rule → Type 0} {a : Reading} → ReadOff bs Short a → {j p : ℕ} → TextVerdict bs Short Accepted j p → (a .refusal ≡ j) × (a .place ≡ p)
 reading-exactly x v = verdict-unique (λ i p j q. accepted-unique) (x .verdict) v

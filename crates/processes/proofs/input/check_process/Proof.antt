@@ -8,7 +8,7 @@ use denote.Ref.{now}
 use borrow.Author.Needs.{needs}
 use borrow.Author.Tests.{not-true, not-false}
 use Rattle.faults.specs.Faults.{EndsKnown, InsideDelays}
-use Rattle.faults.proofs.Lowest.{all-good, as-long}
+use Rattle.verdicts.proofs.Searches.{all-good, as-long}
 use Rattle.processes.specs.Process.{ProcessGraph, processOf, templates, least, most}
 use Rattle.processes.specs.Checks.{CountsKept, MarkKept}
 use Rattle.processes.proofs.Verdicts.{lowest-unknown, lowest-outside, lowest-broken, process-1, process-2, process-3, process-7, refusal-checked, kept-checked}
