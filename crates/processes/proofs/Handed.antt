@@ -2,7 +2,7 @@
 -- when, is in Cycles.antt.
 --     plain g             the templates of g, read as the rules of an event graph
 --     Kept g K            every rule of 01 for process graphs is kept
---     counts-of, ends-of, delays-of, mark-of    what the absence of each refusal says; counts-inside is the first one's converse
+--     counts-of, ends-of, delays-of, mark-of    what the absence of each refusal says
 --     kept-of             unfolding refuses nothing only where all is kept
 --     kept-accepted       and where all is kept and the lists are long enough, it refuses nothing
 --     instance-sized      the instance of a kept template at a k below K has known ends and delays inside
@@ -54,6 +54,7 @@ use Rattle.processes.specs.Unfolding.{
 use Rattle.processes.proofs.Numbers.{place-found}
 use Rattle.processes.proofs.Exactly.{rule-at-place}
 use Rattle.processes.proofs.Occurrences.{occurrence-below}
+use Rattle.processes.proofs.Verdicts.{counts-inside}
 
 -- ---- a process graph that is kept
 
@@ -84,16 +85,6 @@ module _ {g : ProcessGraph} {K : ℕ} where
         mosts-match = stable (length (g .mosts)) (templates g) (λ d. inside (mosts-differ d));
         marks-match = stable (length (g .marks)) (templates g) (λ d. inside (marks-differ d));
       }
-
-  pub counts-inside : CountsKept g K → CountsOutside g K → ⊥
-  counts-inside kept (no-events e) = omega (arith, kept .some-event)
-  counts-inside kept (no-copies e) = omega (arith, kept .some-copy)
-  counts-inside kept (many-occurrences l) = omega (arith, kept .few-occurrences)
-  counts-inside kept (many-rules l) = omega (arith, kept .few-rules)
-  counts-inside kept (targets-differ d) = d (kept .targets-match)
-  counts-inside kept (leasts-differ d) = d (kept .leasts-match)
-  counts-inside kept (mosts-differ d) = d (kept .mosts-match)
-  counts-inside kept (marks-differ d) = d (kept .marks-match)
 
 module _ {g : ProcessGraph} where
   pub ends-of : (j : ℕ) → j < templates g → (UnknownEvent g j → ⊥) → EndsKept (plain g) j

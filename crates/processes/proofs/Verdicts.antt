@@ -1,4 +1,5 @@
 -- The answer to an unfolding, put together from the checks.
+--     counts-inside, known-not-unknown, inside-not-outside, kept-not-broken    what is kept breaks no rule
 --     lowest-unknown, lowest-outside, lowest-broken    a search that stopped has found the lowest template that breaks the rule
 --     process-1 … process-7, process-0    the refusals, each from the facts that shut out the earlier ones, and that none applies
 --     refusal-checked, kept-checked       what check_process answers
@@ -20,9 +21,39 @@ use Rattle.verdicts.proofs.Searches.{lowest-bad, as-long}
 use Rattle.faults.proofs.Unique as faults
 use Rattle.processes.specs.declared.Unfolded.{Unfolded}
 use Rattle.processes.specs.Process.{ProcessGraph, templates, source, target, least, most, mark}
-use Rattle.processes.specs.Unfolding.{CountsOutside, ShortLists, short-sources, short-targets, short-leasts, short-mosts, UnknownEvent, DelayOutside, MarkOutside, Verdict, Answered}
-use Rattle.processes.proofs.Handed.{counts-inside}
+use Rattle.processes.specs.Unfolding.{
+  CountsOutside,
+  no-events,
+  no-copies,
+  many-occurrences,
+  many-rules,
+  targets-differ,
+  leasts-differ,
+  mosts-differ,
+  marks-differ,
+  ShortLists,
+  short-sources,
+  short-targets,
+  short-leasts,
+  short-mosts,
+  UnknownEvent,
+  DelayOutside,
+  MarkOutside,
+  Verdict,
+  Answered,
+}
 use Rattle.processes.specs.Checks.{CountsKept, MarkKept, MarkBroken, ProcessKept, ProcessChecked}
+
+module _ {g : ProcessGraph} {K : ℕ} where
+  pub counts-inside : CountsKept g K → CountsOutside g K → ⊥
+  counts-inside kept (no-events e) = omega (arith, kept .some-event)
+  counts-inside kept (no-copies e) = omega (arith, kept .some-copy)
+  counts-inside kept (many-occurrences l) = omega (arith, kept .few-occurrences)
+  counts-inside kept (many-rules l) = omega (arith, kept .few-rules)
+  counts-inside kept (targets-differ d) = d (kept .targets-match)
+  counts-inside kept (leasts-differ d) = d (kept .leasts-match)
+  counts-inside kept (mosts-differ d) = d (kept .mosts-match)
+  counts-inside kept (marks-differ d) = d (kept .marks-match)
 
 module _ {g : ProcessGraph} where
   pub known-not-unknown : (j : ℕ) → EndsKnown (g .events) (g .sources) (g .targets) j → UnknownEvent g j → ⊥

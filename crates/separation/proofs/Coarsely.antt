@@ -1,6 +1,7 @@
 -- From what the parts promise to the promise of the coarse form.
 --     rounded-lists          the front parts of the two rounded lists make the rounded graph
 --     path-verdict-same      refusals 5 and 6 speak of paths alone, so they are the same of the rounded graph
+--     step-kept              a step from 1 to 1,000 is not refused
 --     coarse-refused         an input that is refused is answered
 --     coarse-step-refused    so is a step that is refused
 --     coarse-analysed        an input that is kept is answered by the analysis of the rounded graph

@@ -12,7 +12,7 @@ use mathlib.Core.Logic.{_⊎_, ⊎-elim}
 use Prim.Native.Nat.{ℕ, _<_, _≤_}
 use native.Mathlib.Omega.{arith}
 use Rattle.verdicts.specs.Verdict.{given, passed, FirstOf, Lowest}
-use Rattle.verdicts.proofs.Verdicts.{OnePlace, Misses, passed-all, front-given, none-accepted, then-unique, one-verdict}
+use Rattle.verdicts.proofs.Verdicts.{at-zero, OnePlace, Misses, passed-all, front-given, none-accepted, then-unique, one-verdict}
 use Rattle.graphs.specs.Graph.{Graph, rules}
 use Rattle.graphs.specs.Path.{HasCycle, Reachable}
 use Rattle.graphs.specs.Limits.{CountsKept, EndsKept, Sized}
@@ -42,7 +42,7 @@ module _ {g : Graph} {s t : ℕ} {Short : Type 0} where
   kept-checked r k = record { refused = λ n. absurd (n (r .0)); nothing = λ n. absurd (n (r .0)); kept = λ _. k }
 
   pub input-1 : CountsOutside g ⊎ Short → FirstOf (questionChecks g s t Short) 1 0
-  input-1 h = given (record { zero-place = refl; holds = h })
+  input-1 h = given (at-zero h)
 
   pub input-2 : (Short → ⊥) → CountsKept g → {p : ℕ} → Lowest (UnknownEvent g) p → FirstOf (questionChecks g s t Short) 2 p
   input-2 room counts h = passed (counts-miss room counts) (given h)
@@ -75,7 +75,7 @@ step-kept {q} positive small p o =
 
 module _ {g : Graph} where
   pub path-5 : HasCycle g → PathVerdict g 5 0
-  path-5 h = given (record { zero-place = refl; holds = h })
+  path-5 h = given (at-zero h)
 
   pub path-6 : (HasCycle g → ⊥) → {p : ℕ} → Lowest (Unreached g) p → PathVerdict g 6 p
   path-6 acyclic h = passed (cycle-misses acyclic) (given h)

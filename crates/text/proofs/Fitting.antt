@@ -13,7 +13,6 @@ use mathlib.Core.Path.{_≡_, refl, subst}
 use mathlib.Core.List.{List, [], _∷_, _++_, map}
 use Prim.Native.Nat.{ℕ, zero, suc, _+_, _*_, _-_, _<_, _≤_}
 use native.Mathlib.Omega.{arith}
-use lib.IntN.{ℤ}
 use lib.ListN.{length, length-append}
 use Rattle.integers.specs.Within.{Within}
 use Rattle.graphs.specs.Graph.{Graph}
@@ -21,7 +20,7 @@ use Rattle.graphs.specs.Path.{HasCycle}
 use Rattle.graphs.specs.Limits.{Sized}
 use Rattle.graphs.proofs.Unique.{sized-of}
 use Rattle.executions.proofs.Sizes.{gap-within}
-use Rattle.text.specs.Grammar.{Rule, Text}
+use Rattle.text.specs.Grammar.{Rule}
 use Rattle.text.specs.Reading.{events, graphOfRules}
 use Rattle.text.specs.Output.{Pair, pairOf, upFrom, pairsOfAll, pairs, PairLine, Lines, GraphVerdict, PairsVerdict, Output, table, refused, outputPlaces}
 use Rattle.text.specs.Output as output

@@ -1,4 +1,5 @@
 -- The promise of the reader fixes its result: two readings allowed for one text are equal, lists included.
+--     broken-first          a text of not too many bytes that is broken is refused with 8
 --     verdict-unique        a text has one verdict
 --     reading-unique        two readings of one text are equal
 --     reading-exactly       a refusal is given exactly when its rule says: whatever number and place the verdict allows, the reading has them
@@ -7,18 +8,23 @@
 -- Assumes nothing.
 use mathlib.Core.Path.{_≡_, sym, ap, subst, _∙_}
 use mathlib.Core.List.{List}
-use Prim.Native.Nat.{ℕ}
+use Prim.Native.Nat.{ℕ, _≤_}
 use native.Mathlib.Decide.{ℕ-discrete}
+use native.Mathlib.Omega.{arith}
 use lib.IntN.{ℤ}
 use lib.ListN.{length}
 use Rattle.verdicts.specs.Verdict.{Accepted}
 use Rattle.verdicts.proofs.Verdicts.{OneVerdict, at-zero-unique, first-unique, accepted-unique}
 use Rattle.text.specs.declared.Reading.{Reading}
-use Rattle.text.specs.Grammar.{Rule}
+use Rattle.text.specs.Grammar.{Rule, Broken}
 use Rattle.text.specs.Reading.{TextVerdict, ReadOff, RulesWritten, events}
 use Rattle.text.proofs.Texts.{text-unique, broken-unique}
 
 -- ---- the reading
+
+-- "1 for the bytes, 8, 1 for the counts": a broken row is refused with 8, whatever the counts
+pub broken-first : {bs : List ℕ} {Short : List Rule → Type 0} {Rest : ℕ → ℕ → Type 0} {k : ℕ} → length bs ≤ 32768 → Broken bs k → TextVerdict bs Short Rest 8 k
+broken-first few broken = passed (λ q z. let long = z .holds in omega arith) (given broken)
 
 pub verdict-unique : {bs : List ℕ} {Short : List Rule → Type 0} {Rest : ℕ → ℕ → Type 0} → OneVerdict Rest →
     {i p j q : ℕ} → TextVerdict bs Short Rest i p → TextVerdict bs Short Rest j q → (i ≡ j) × (p ≡ q)

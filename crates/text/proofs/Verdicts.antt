@@ -19,6 +19,7 @@ use Rattle.text.specs.Grammar.{Rule, Text, Broken}
 use Rattle.text.specs.Reading.{events, ShortLists, Beyond, many-events, many-rows, short-list, CountsBeyond, TextVerdict, ReadOff, ListsHold, RulesWritten}
 use Rattle.text.specs.Scanning.{Scanned}
 use Rattle.text.proofs.Texts.{text-unique, text-not-broken}
+use Rattle.text.proofs.Unique.{broken-first}
 
 -- ---- the reading
 
@@ -45,7 +46,7 @@ module _ (bs : List ℕ) (few : length bs ≤ 32768) where
   pub read-broken : {Short : List Rule → Type 0} {a : Reading} → Scanned bs a → (a .refusal ≡ 0 → ⊥) → ReadOff bs Short a
   read-broken s refused =
       let (e, broken, g, h) = s .wrong refused in
-      read-refused (omega arith) (passed not-long (given broken)) (e, refl, g, h)
+      read-refused (omega arith) (broken-first few broken) (e, refl, g, h)
 
   module _ {a : Reading} (s : Scanned bs a) (right : a .refusal ≡ 0) where
     abbrev the-rules : List Rule

@@ -1,6 +1,7 @@
 -- Laws of verdicts, over any list of checks and any Rest.
 --     OnePlace At, OnePlaces cs        At holds of one place at most; each check of the list does
 --     OneVerdict Rest                  Rest gives one number and place at most
+--     at-zero                          what holds, holds at place 0
 --     lowest-unique, at-zero-unique    the lowest place is one; place 0 is one
 --     accepted-unique, then-unique     a list each of whose checks has one place gives one number and place, where Rest does
 --     one-verdict                      and where nothing is left to Rest
@@ -42,6 +43,9 @@ lowest-unique p q a b =
     let not-below : q < p → ⊥ = λ l. a .lowest q l (b .holds) in
     let not-above : p < q → ⊥ = λ l. b .lowest p l (a .holds) in
     omega arith
+
+pub at-zero : {A : Type 0} → A → AtZero A 0
+at-zero h = record { zero-place = refl; holds = h }
 
 pub at-zero-unique : {A : Type 0} → OnePlace (AtZero A)
 at-zero-unique p q a b = omega arith
