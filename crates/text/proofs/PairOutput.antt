@@ -7,21 +7,22 @@
 --     table-put         the table
 -- Assumes nothing.
 use mathlib.Core.Path.{_≡_, refl, ap, sym, subst, subst₂, _∙_}
-use mathlib.Core.List.{List, _++_}
+use mathlib.Core.List.{List, [], _∷_, _++_}
 use Prim.Native.Nat.{ℕ, _+_, _≤_}
 use native.Mathlib.Omega.{arith}
 use lib.IntN.{ℤ}
 use lib.ListN.{length, take, drop}
 use Rattle.graphs.specs.Graph.{Graph, graphOf}
 use Rattle.graphs.specs.Limits.{EventGraph}
-use Rattle.verdicts.specs.Verdict.{given, passed, accepted}
+use Rattle.verdicts.specs.Verdict.{given, check, AtZero}
+use Rattle.verdicts.proofs.Verdicts.{none-accepted}
+use Rattle.graphs.proofs.Refusals.{graph-place}
 use Rattle.separation.specs.declared.Answer.{Answer}
 use Rattle.text.specs.declared.Reading.{Reading}
 use Rattle.text.specs.Reading.{events, graphOfRules, ShortLists, ReadOff, RulesWritten}
 use Rattle.text.specs.Output.{pairs, ending, Lines, pairHeader, RefusedLine, PairsVerdict, Output, table, refused, outputPlaces, ShortOutput, PairsWritten}
 use Rattle.text.specs.Appending.{Appended}
 use Rattle.text.specs.Tables.{Filled, TableAnswered}
-use Rattle.text.proofs.Places.{place-zero}
 use Rattle.text.proofs.Handed.{handed, accepted-on, read-refused}
 
 -- ---- the lent list
@@ -42,7 +43,7 @@ pub output-written : {bs out₀ out : List ℕ} {k : ℕ} → outputPlaces ≤ l
 output-written {out₀ = out₀} {out} room (bytes, o, a) =
     let count : length bytes ≡ 0 + length bytes = omega arith in
     record {
-      verdict = passed (λ p short. let no : ⊥ = omega (arith, short .holds) in no) accepted;
+      verdict = none-accepted (check 1 (AtZero (ShortOutput out₀)) ∷ []) (λ p short. let no : ⊥ = omega (arith, short .holds) in no, tt);
       written = λ e. (bytes, o, a .after ∙ sym count, a .bytes ∙ ap (λ (m : ℕ). bytes ++ drop m out₀) (a .after ∙ sym count));
       no-bytes = λ n. absurd (n refl);
       kept = λ n. absurd (n refl);
@@ -86,5 +87,5 @@ module _ {bs : List ℕ} {a : Reading} {ss₀ ts₀ : List ℕ} {ds₀ Ds₀ : L
         let filled : Filled (graphOfRules (h .rs)) (a .events) entries = subst (λ (n : ℕ). Filled (graphOfRules (h .rs)) n entries) same (answered .filled z) in
         let (lines, are-lines, written) = writes (graphOfRules (h .rs)) same (answered .graph z) filled in
         let lines-of : Lines (graphOfRules (h .rs)) (pairs (events (h .rs))) lines = subst (λ (n : ℕ). Lines (graphOfRules (h .rs)) (pairs n) lines) (h .event-count) are-lines in
-        let zero-verdict : PairsVerdict bs 0 0 = subst₂ (PairsVerdict bs) z (place-zero (answered .verdict) z) verdict in
+        let zero-verdict : PairsVerdict bs 0 0 = subst₂ (PairsVerdict bs) z (graph-place (graphOfRules (h .rs)) (b .refusal) (b .place) z (answered .verdict)) verdict in
         (pairHeader ++ (ending ++ lines), table (h .rs) lines zero-verdict (h .text) lines-of refl, written)

@@ -1,13 +1,12 @@
 -- The table of all pairs, row by row.
 --     copied-none, copied-more    a loop that copies one place of row s a turn
---     graph-verdict               asked about one of its events, a graph is refused as it is alone
 --     times-small                 the times of a latest schedule are small, so that their differences fit a word
 --     row-refused, row-answered   what one row's function promises, from the promises of the analysis and of the copying
 --     filled-none, filled-more    the rows filled before are kept
 --     table-refused, table-filled what the table's function promises
 -- Assumes nothing.
 use mathlib.Core.Path.{_≡_, refl, sym, subst, _∙_}
-use mathlib.Core.Logic.{inl, inr, ⊎-elim}
+use mathlib.Core.Logic.{inl, inr}
 use mathlib.Core.List.{List}
 use Prim.Native.Nat.{ℕ, _+_, _*_, _<_, _≤_}
 use native.Mathlib.Omega.{arith}
@@ -17,12 +16,11 @@ use lib.Seq.{getD-set-same, getD-set-other}
 use borrow.Author.Count.{below-none, below-more}
 use Rattle.integers.specs.Within.{Within}
 use Rattle.graphs.specs.Graph.{Graph, rules}
+use Rattle.graphs.proofs.Refusals.{graph-alone}
 use Rattle.executions.proofs.Sizes.{times-within}
 use Rattle.executions.specs.Separation.{Separation}
 use Rattle.separation.specs.declared.Answer.{Answer}
-use Rattle.separation.specs.Promise.{at, MissingEnd, source-missing, target-missing, Verdict, Answered, Written, ShortLists}
-use Rattle.text.proofs.Refusals.{first-changed, first-idle}
-use Rattle.text.specs.Output.{GraphVerdict}
+use Rattle.separation.specs.Promise.{at, Answered, Written, ShortLists}
 use Rattle.text.specs.Tables.{entry, RowFilled, Filled, TableAnswered}
 use Rattle.text.specs.TableRows.{RowsKept, RowCopied, RowAnswered}
 
@@ -53,16 +51,6 @@ copied-more {k} {s} {times} {table₀} {table} {x} room c e =
 
 -- ---- one row answered
 
--- refusal 4 is of s and t, and a lent list that is long enough is none of the graph's faults
-pub graph-verdict : {g : Graph} {s : ℕ} {Short : Type 0} {j p : ℕ} → s < g .events → (Short → ⊥) → Verdict g s s Short j p → GraphVerdict g j p
-graph-verdict {g} {s} known room =
-    first-changed (λ p a. record { zero-place = a .zero-place; holds = ⊎-elim (λ o. o) (λ x. absurd (room x)) (a .holds) }) (λ p a. record { zero-place = a .zero-place; holds = inl (a .holds) })
-    (λ j p. first-changed (λ p a. a) (λ p a. a) (λ j p. first-changed (λ p a. a) (λ p a. a) (λ j p. first-idle present)))
-  where
-    present : (p : ℕ) → MissingEnd g s s p → ⊥
-    present p (source-missing l) = omega arith
-    present p (target-missing k l) = omega arith
-
 -- the times of the latest schedule against s
 module _ {g : Graph} {s : ℕ} {a : Answer} {times₀ delays₀ times delays : List ℤ} (known : s < g .events) (p : Answered g s s (ShortLists g times₀ delays₀) a) (w : Written g s a times₀ delays₀ times delays) where
   pub times-small : a .refusal ≡ 0 → (v : ℕ) → v < g .events → Within 1023000000 (at times v)
@@ -74,12 +62,12 @@ module _ {g : Graph} {s : ℕ} {a : Answer} {times₀ delays₀ times delays : L
     enough (inr l) = omega arith
 
     pub row-refused : (a .refusal ≡ 0 → ⊥) → {table : List ℤ} → RowAnswered g s a table table
-    row-refused n = record { verdict = graph-verdict known enough (p .verdict); graph = λ e. absurd (n e); kept = rows-same; filled = λ e. absurd (n e) }
+    row-refused n = record { verdict = graph-alone enough known known (a .refusal) (a .place) (p .verdict); graph = λ e. absurd (n e); kept = rows-same; filled = λ e. absurd (n e) }
 
     pub row-answered : {table₀ table : List ℤ} → RowCopied (g .events) s times table₀ table → RowAnswered g s a table₀ table
     row-answered {table = table} c =
         record {
-          verdict = graph-verdict known enough (p .verdict);
+          verdict = graph-alone enough known known (a .refusal) (a .place) (p .verdict);
           graph = λ e. p .found e .graph;
           kept = c .kept;
           filled = λ e. record { each = λ t l. subst (Separation g s t) (sym (c .copied t l)) (w .schedule e .latest t l) };

@@ -11,7 +11,7 @@ use Rattle.graphs.specs.Graph.{Graph}
 use Rattle.graphs.specs.Limits.{EventGraph}
 use Rattle.separation.specs.Promise.{at}
 use Rattle.separation.specs.declared.Answer.{Answer}
-use Rattle.text.specs.Output.{GraphVerdict}
+use Rattle.graphs.specs.Refusal.{GraphVerdict}
 use Rattle.text.specs.Tables.{entry, RowFilled}
 
 -- two tables of one length hold the same in the rows before row s

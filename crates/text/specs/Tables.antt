@@ -12,7 +12,7 @@ use Rattle.graphs.specs.Graph.{Graph}
 use Rattle.graphs.specs.Limits.{EventGraph}
 use Rattle.executions.specs.Separation.{Separation}
 use Rattle.separation.specs.declared.Answer.{Answer}
-use Rattle.text.specs.Output.{GraphVerdict}
+use Rattle.graphs.specs.Refusal.{GraphVerdict}
 
 abbrev pub entry : List ℤ → ℕ → ℕ → ℤ
 entry table s t = getD table (s * 64 + t) (pos 0)
