@@ -3,7 +3,6 @@
 --     text-passed     number 0 is given past the reader, where none of its checks applies
 --     accepted-on     and there what follows decides
 --     counts-small    an accepted text has few events and few rows, and no list is too short
---     some-event      and one event at least
 --     Handed          what is known of the lists after an accepted reading: their first places are the text's graph
 --     handed          so it is
 --     read-refused    the reader's refusal, with nothing lent
@@ -90,17 +89,12 @@ module _ {bs : List ℕ} {Short : List Rule → Type 0} where
       let few-rows : 1024 < length rs → ⊥ = λ l. beyond (many-rows l) in
       (omega arith, omega arith, λ x. beyond (short-list x))
 
-pub some-event : (rs : List Rule) → 1 ≤ events rs
-some-event [] = omega arith
-some-event (r ∷ rs) = omega arith
-
 -- ---- the lists after a reading
 
 pub record Handed (bs : List ℕ) (a : Reading) (ss ts : List ℕ) (ds Ds : List ℤ) : Type 0 where
   pub rs : List Rule
   pub text : Text bs rs
   pub event-count : a .events ≡ events rs
-  pub some : 1 ≤ a .events
   pub few : a .events ≤ 64
   pub few-rows : a .rules ≤ 1024
   pub graph : graphOf (a .events) (take (a .rules) ss) (take (a .rules) ts) (take (a .rules) ds) (take (a .rules) Ds) ≡ graphOfRules rs
@@ -125,7 +119,6 @@ module _ {bs : List ℕ} {a : Reading} {ss₀ ts₀ : List ℕ} {ds₀ Ds₀ : L
         rs = rs;
         text = text;
         event-count = n;
-        some = omega (arith, some-event rs);
         few = omega arith;
         few-rows = omega arith;
         graph = held-graph (w .written e rs text) n m;
