@@ -7,17 +7,40 @@
 --     graph-sized, question-sized                  and where none applies the graph is sized
 --     path-kept                                    and has no cycle
 --     short-alike                                  the questions' checks, where "too short" is said in two ways
+--     graph-verdict-unique                         a graph has one verdict
+--     graph-accepted, graph-place                  an accepted graph is sized and has no cycle; its place is 0
+--     graph-alone                                  asked about two of its events, with lists that are long enough, a graph is refused as it is alone
 -- Assumes nothing.
 use mathlib.Core.Path.{_≡_, refl}
 use mathlib.Core.Logic.{_⊎_, inl, inr, ⊎-elim}
+use mathlib.Core.List.{[], _∷_, _++_}
 use Prim.Native.Nat.{ℕ, _<_, _≤_}
 use native.Mathlib.Omega.{arith}
-use Rattle.verdicts.specs.Verdict.{AtZero, Lowest}
-use Rattle.verdicts.proofs.Verdicts.{OnePlace, OnePlaces, Misses, NoneApplies, lowest-unique, at-zero-unique, Alike, more-alike, alike-refl}
+use Rattle.verdicts.specs.Verdict.{check, Accepted, FirstThen, FirstOf, AtZero, Lowest}
+use Rattle.verdicts.proofs.Verdicts.{
+  OnePlace,
+  OnePlaces,
+  OneVerdict,
+  Misses,
+  NoneApplies,
+  Refusals,
+  Alike,
+  lowest-unique,
+  at-zero-unique,
+  then-unique,
+  one-verdict,
+  then-more,
+  rest-of,
+  accepted-none,
+  accepted-place,
+  more-alike,
+  alike-refl,
+  then-alike,
+}
 use Rattle.graphs.specs.Graph.{Graph, rules}
 use Rattle.graphs.specs.Path.{HasCycle, Reachable}
 use Rattle.graphs.specs.Limits.{CountsKept, EndsKept, DelaysKept, Sized}
-use Rattle.graphs.specs.Refusal.{CountsOutside, UnknownEvent, DelayOutside, MissingEnd, source-missing, target-missing, Unreached, graphChecks, questionChecks, pathChecks}
+use Rattle.graphs.specs.Refusal.{CountsOutside, UnknownEvent, DelayOutside, MissingEnd, source-missing, target-missing, Unreached, graphChecks, questionChecks, pathChecks, GraphVerdict}
 use Rattle.graphs.proofs.Unique.{counts-not-outside, ends-kept, delays-kept, sized-of}
 
 -- ---- one place
@@ -86,3 +109,35 @@ module _ {A B : Type 0} (f : A → B) (h : B → A) where
 module _ {A B : Type 0} (f : A → B) (h : B → A) where
   pub short-alike : {g : Graph} {s t : ℕ} → Alike (questionChecks g s t A) (questionChecks g s t B)
   short-alike = more-alike (short-at f h) (short-at h f) (alike-refl _)
+
+-- ---- a graph alone
+
+module _ (g : Graph) where
+  pub graph-verdict-unique : OneVerdict (GraphVerdict g)
+  graph-verdict-unique = then-unique (graphChecks g) {Rest = FirstOf (pathChecks g)} (graph-places g) (one-verdict (pathChecks g) (path-places g))
+
+  refusals : Refusals (graphChecks g ++ pathChecks g)
+  refusals = (omega arith, (omega arith, (omega arith, (omega arith, (omega arith, tt)))))
+
+  pub graph-accepted : (j p : ℕ) → j ≡ 0 → GraphVerdict g j p → Sized 1000000 g × (HasCycle g → ⊥)
+  graph-accepted j p e v =
+      let (none, after) = accepted-none (graphChecks g) (FirstOf (pathChecks g)) (omega arith, (omega arith, (omega arith, tt))) j p e v in
+      let (paths, _) = accepted-none (pathChecks g) Accepted (omega arith, (omega arith, tt)) j p e after in
+      (graph-sized none, path-kept paths)
+
+  pub graph-place : (j p : ℕ) → j ≡ 0 → GraphVerdict g j p → p ≡ 0
+  graph-place j p e v = accepted-place (graphChecks g ++ pathChecks g) refusals j p e v
+
+-- refusal 4 is of s and t, and a lent list that is long enough is none of the graph's faults
+module _ {g : Graph} {s t : ℕ} {Short : Type 0} (room : Short → ⊥) (hs : s < g .events) (ht : t < g .events) where
+  room-alike : Alike (questionChecks g s t Short) (graphChecks g ++ (check 4 (MissingEnd g s t) ∷ []))
+  room-alike =
+      more-alike {At = AtZero (CountsOutside g ⊎ Short)} {At′ = AtZero (CountsOutside g)}
+      (λ p a. record { zero-place = a .zero-place; holds = ⊎-elim (λ o. o) (λ x. absurd (room x)) (a .holds) })
+      (λ p a. record { zero-place = a .zero-place; holds = inl (a .holds) })
+      (alike-refl _)
+
+  pub graph-alone : (j p : ℕ) → FirstThen (questionChecks g s t Short) (FirstOf (pathChecks g)) j p → GraphVerdict g j p
+  graph-alone j p v =
+      then-more (graphChecks g) (FirstThen (check 4 (MissingEnd g s t) ∷ []) (FirstOf (pathChecks g))) (FirstOf (pathChecks g)) j p
+      (rest-of (check 4 (MissingEnd g s t) ∷ []) (FirstOf (pathChecks g)) j p (missing-end-misses hs ht, tt)) (then-alike room-alike (FirstOf (pathChecks g)) j p v)

@@ -7,15 +7,16 @@
 --     graphChecks g            == refusals 1 to 3, in 01's order: those of the graph before any path is looked at
 --     questionChecks g s t Short == refusals 1 to 4: the same of a question, with a lent list too short where Short says so
 --     pathChecks g             == refusals 5 and 6
+--     GraphVerdict g           == the refusals of a graph alone: 1, 2, 3, 5, 6
 -- Refusal 5 is `HasCycle` of Path.antt. Assumes nothing.
 use mathlib.Core.Path.{_≡_}
 use mathlib.Core.Logic.{_⊎_}
-use mathlib.Core.List.{List, [], _∷_}
+use mathlib.Core.List.{List, [], _∷_, _++_}
 use Prim.Native.Nat.{ℕ, _<_, _≤_}
 use lib.IntN.{ℤ, pos, negℤ}
 use lib.Signed.{_<ℤ_}
 use lib.ListN.{length}
-use Rattle.verdicts.specs.Verdict.{Check, check, AtZero, Lowest}
+use Rattle.verdicts.specs.Verdict.{Check, check, FirstOf, AtZero, Lowest}
 use Rattle.graphs.specs.Graph.{Graph, rules, source, target, least, most}
 use Rattle.graphs.specs.Path.{Path, HasCycle, Reachable}
 
@@ -64,3 +65,7 @@ questionChecks g s t Short = check 1 (AtZero (CountsOutside g ⊎ Short)) ∷ ch
 
 abbrev pub pathChecks : Graph → List Check
 pathChecks g = check 5 (AtZero (HasCycle g)) ∷ check 6 (Lowest (Unreached g)) ∷ []
+
+-- "then as the analysis": of a graph with no s and t, there is no refusal 4
+abbrev pub GraphVerdict : Graph → ℕ → ℕ → Type 0
+GraphVerdict g = FirstOf (graphChecks g ++ pathChecks g)

@@ -4,7 +4,6 @@
 --     Lines g ps bs         == bs are the lines of the pairs ps
 --     pairHeader            == `from,to,least,most`
 --     RefusedLine k p bs    == bs is the line `refused`, number k, place p
---     GraphVerdict g        == the refusals of a graph alone, as the analysis has them
 --     PairsVerdict bs       == the refusals of the pair program
 --     Output bs out         == out is what the pair program writes for the text bs
 --     outputPlaces          == how many places a lent list needs for the output: every output fits (`output-fits`, proofs/Fitting.antt)
@@ -19,7 +18,7 @@ use lib.IntN.{ℤ}
 use lib.ListN.{length, drop}
 use Rattle.graphs.specs.Graph.{Graph}
 use Rattle.verdicts.specs.Verdict.{check, FirstOf, AtZero}
-use Rattle.graphs.specs.Refusal.{graphChecks, pathChecks}
+use Rattle.graphs.specs.Refusal.{GraphVerdict}
 use Rattle.executions.specs.Separation.{Separation, LeastSeparation}
 use Rattle.text.specs.Numbers.{Natural, Integer}
 use Rattle.text.specs.Grammar.{Rule, Text}
@@ -91,10 +90,7 @@ pub record RefusedLine (k p : ℕ) (bs : List ℕ) : Type 0 where
   pub place-written : Natural place-field p
   pub bytes : bs ≡ refusedWord ++ (44 ∷ (number-field ++ (44 ∷ (place-field ++ ending))))
 
--- "then as the analysis": of a graph with no s and t, there is no refusal 4
-abbrev pub GraphVerdict : Graph → ℕ → ℕ → Type 0
-GraphVerdict g = FirstOf (graphChecks g ++ pathChecks g)
-
+-- "then as the analysis", of a graph alone
 abbrev pub PairsVerdict : List ℕ → ℕ → ℕ → Type 0
 PairsVerdict bs = TextVerdict bs NoLists (λ (j p : ℕ). (rs : List Rule) × Text bs rs × GraphVerdict (graphOfRules rs) j p)
 

@@ -13,17 +13,22 @@
 --     front-or-rest                    a verdict is by the list, or no check of it applies and it is by Rest
 --     Refusals cs                      no check of the list has number 0
 --     none-accepted, accepted-none     number 0 is given where no check applies, and only there
+--     accepted-place                   and with it place 0
 --     Places Q cs, then-place          Q holds of the number and every place of every check, and of what Rest gives: then of what is given
+--     PlacesAfter Q cs, then-place-after    the same, where of each check only what none before it refuses is asked
 --     OneOf j ks, verdict-number       j is one of ks, or 0: the number given is one of the list's, or 0
+--     among ks j, one-of               the same as a test, which computes
 --     Alike cs ds, alike-refl, then-alike          two lists, check by check of one number, that apply at the same places give the same verdict
 --     none-lowest                      what has no lowest number holds of none
 -- Assumes nothing.
 use mathlib.Core.Path.{_≡_, refl}
-use mathlib.Core.Logic.{_⊎_, inl, inr}
+use mathlib.Core.Logic.{_⊎_, inl, inr, ⊎-elim}
+use mathlib.Core.Bool.{Bool, true, false, cond}
 use mathlib.Core.List.{List, [], _∷_, _++_, map}
 use Prim.Native.Nat.{ℕ, zero, suc, _<_}
 use native.Mathlib.Nat.{not-suc-le-zero}
 use native.Mathlib.Omega.{arith}
+use lib.Dec.{T, eqb, eqb→eq}
 use Rattle.verdicts.specs.Verdict.{Check, check, First, given, passed, Accepted, accepted, FirstThen, FirstOf, AtZero, Lowest}
 
 -- ---- one place, one verdict
@@ -132,6 +137,12 @@ accepted-none (c ∷ cs) Rest numbers j p e v =
     let (rest, at) = accepted-none cs Rest (numbers .1) j p e r in
     ((none, rest), at)
 
+zero-accepted : {j p : ℕ} → Accepted j p → p ≡ 0
+zero-accepted accepted = refl
+
+pub accepted-place : (cs : List Check) → Refusals cs → (j p : ℕ) → j ≡ 0 → FirstOf cs j p → p ≡ 0
+accepted-place cs numbers j p e v = zero-accepted (accepted-none cs Accepted numbers j p e v .1)
+
 -- ---- which number, which place
 
 abbrev pub Places : (ℕ → ℕ → Type 0) → List Check → Type 0
@@ -142,6 +153,15 @@ pub then-place : (Q : ℕ → ℕ → Type 0) (cs : List Check) (Rest : ℕ → 
 then-place Q [] Rest j p each rest v = rest v
 then-place Q (c ∷ cs) Rest j p each rest (given a) = each .0 p a
 then-place Q (c ∷ cs) Rest j p each rest (passed none r) = then-place Q cs Rest j p (each .1) rest r
+
+abbrev pub PlacesAfter : (ℕ → ℕ → Type 0) → List Check → Type 0
+PlacesAfter Q [] = Unit {0}
+PlacesAfter Q (c ∷ cs) = ((p : ℕ) → c .At p → Q (c .number) p) × (Misses (c .At) → PlacesAfter Q cs)
+
+pub then-place-after : (Q : ℕ → ℕ → Type 0) (cs : List Check) (Rest : ℕ → ℕ → Type 0) (j p : ℕ) → PlacesAfter Q cs → (NoneApplies cs → Rest j p → Q j p) → FirstThen cs Rest j p → Q j p
+then-place-after Q [] Rest j p each rest v = rest tt v
+then-place-after Q (c ∷ cs) Rest j p each rest (given a) = each .0 p a
+then-place-after Q (c ∷ cs) Rest j p each rest (passed none r) = then-place-after Q cs Rest j p (each .1 none) (λ others. rest (none, others)) r
 
 abbrev pub OneOf : ℕ → List ℕ → Type 0
 OneOf j [] = j ≡ 0
@@ -157,6 +177,18 @@ pub verdict-number : (cs : List Check) (j p : ℕ) → FirstOf cs j p → OneOf 
 verdict-number [] j p v = is-zero v
 verdict-number (c ∷ cs) j p (given a) = inl refl
 verdict-number (c ∷ cs) j p (passed none r) = inr (verdict-number cs j p r)
+
+abbrev pub among : List ℕ → ℕ → Bool
+among [] j = eqb j 0
+among (k ∷ ks) j = cond (eqb j k) true (among ks j)
+
+either : (a b : Bool) → T (cond a true b) → T a ⊎ T b
+either true b t = inl tt
+either false b t = inr t
+
+pub one-of : (ks : List ℕ) (j : ℕ) → T (among ks j) → OneOf j ks
+one-of [] j t = eqb→eq j 0 t
+one-of (k ∷ ks) j t = ⊎-elim (λ h. inl (eqb→eq j k h)) (λ h. inr (one-of ks j h)) (either (eqb j k) (among ks j) t)
 
 -- ---- two lists that say the same
 
