@@ -16,8 +16,8 @@
 -- number 2 of occurrence 1 of event 0, and a template of mark 1 from event 1 to event 0 would give, at k = 1, a rule from 2 to 2.
 -- Assumes nothing.
 use mathlib.Core.Path.{_≡_, refl, sym, ap, subst, _∙_}
-use mathlib.Core.Logic.{⊎-elim, _↔_}
-use mathlib.Core.List.{List}
+use mathlib.Core.Logic.{_↔_}
+use mathlib.Core.List.{List, [], _∷_}
 use Prim.Native.Nat.{ℕ, suc, _+_, _*_, _<_, _≤_}
 use native.Mathlib.Omega.{arith}
 use lib.IntN.{ℤ}
@@ -25,11 +25,15 @@ use lib.ListN.{take}
 use Rattle.graphs.specs.Graph as event
 use Rattle.graphs.specs.Graph.{Graph, graphOf, rules}
 use Rattle.graphs.specs.Path.{Path, stay, step, steps, HasCycle}
-use Rattle.verdicts.specs.Verdict.{given, passed, accepted}
+use Rattle.graphs.specs.Refusal.{pathChecks}
+use Rattle.graphs.proofs.Refusals.{path-places}
+use Rattle.verdicts.specs.Verdict.{check, given, Accepted}
+use Rattle.verdicts.proofs.Verdicts.{one-verdict, then-place, not-accepted, rest-of}
 use Rattle.faults.specs.Faults.{EndsKnown}
 use Rattle.separation.specs.declared.Answer.{Answer}
 use Rattle.separation.specs.Promise as analysis
 use Rattle.separation.specs.Coarse.{StepOutside, CoarseVerdict}
+use Rattle.separation.proofs.Verdicts.{step-kept}
 use Rattle.processes.specs.declared.Event.{Event}
 use Rattle.processes.specs.declared.Unfolded.{Unfolded}
 use Rattle.processes.specs.Process.{ProcessGraph, templates, source, target, occurrence, Node, at, number, Instance, together, onward, start}
@@ -38,7 +42,8 @@ use Rattle.processes.specs.Unfolding.{Unfolds, Answered, Written}
 use Rattle.processes.proofs.Numbers.{place-below, Place, place-found}
 use Rattle.processes.proofs.Occurrences.{event-same, numbers-apart, never-root}
 use Rattle.processes.proofs.Exactly.{instance-unique, rule-at-place}
-use Rattle.processes.proofs.Handed.{Kept, unfolded-sized, first-rest, past-4, handed}
+use Rattle.processes.proofs.Refusals.{Kept}
+use Rattle.processes.proofs.Handed.{unfolded-sized, past-question, handed}
 
 -- ---- from the process graph to its unfolding
 
@@ -137,10 +142,13 @@ module _ {g : ProcessGraph} {K : ℕ} {graph : Graph} (unfolds : Unfolds g K gra
 
 -- ---- the analysis's verdict
 
+-- a cycle is refused with 5, and a number other than 5 comes where there is none
 path-5 : {graph : Graph} {j p : ℕ} → analysis.PathVerdict graph j p → (j ≡ 5) ↔ HasCycle graph
-path-5 (given a) = (λ _. a .holds, λ _. refl)
-path-5 (passed none (given a)) = (λ e. absurd (let no : ⊥ = omega arith in no), λ c. absurd (none 0 (record { zero-place = refl; holds = c })))
-path-5 (passed none (passed none′ accepted)) = (λ e. absurd (let no : ⊥ = omega arith in no), λ c. absurd (none 0 (record { zero-place = refl; holds = c })))
+path-5 {graph} {j} {p} v = (cycle-of, λ c. one-verdict (pathChecks graph) (path-places graph) j p 5 0 v (given (record { zero-place = refl; holds = c })) .0)
+  where
+    cycle-of : j ≡ 5 → HasCycle graph
+    cycle-of e =
+        then-place (λ k q. k ≡ 5 → HasCycle graph) (pathChecks graph) Accepted j p (λ q a _. a .holds, (λ q a six. absurd (let no : ⊥ = omega arith in no), tt)) (λ a five. not-accepted (λ zero. let no : ⊥ = omega arith in no) a) v e
 
 module _ {g : ProcessGraph} {K : ℕ} {graph : Graph} (kept : Kept g K) (unfolds : Unfolds g K graph)
     {s t : ℕ} (hs : s < graph .events) (ht : t < graph .events) where
@@ -153,13 +161,12 @@ module _ {g : ProcessGraph} {K : ℕ} {graph : Graph} (kept : Kept g K) (unfolds
       (λ e. agree .0 (by .0 e), λ c. by .1 (agree .1 c))
 
   pub refused-5-exactly : {Short : Type 0} {j p : ℕ} → (Short → ⊥) → analysis.Verdict graph s t Short j p → (j ≡ 5) ↔ MarkZeroCycle g
-  refused-5-exactly room v = path-5-exactly (past-4 (unfolded-sized kept unfolds) room hs ht v)
+  refused-5-exactly room v = path-5-exactly (past-question (unfolded-sized kept unfolds) room hs ht v)
 
   pub coarse-5-exactly : {q j p : ℕ} → 1 ≤ q → q ≤ 1000 → CoarseVerdict graph q s t j p → (j ≡ 5) ↔ MarkZeroCycle g
-  coarse-5-exactly {q} positive small v =
-      let some-step : q ≡ 0 → ⊥ = λ e. omega arith in
-      let no-more : 1000 < q → ⊥ = λ l. omega arith in
-      path-5-exactly (first-rest (λ p o. ⊎-elim some-step no-more (o .outside)) (past-4 (unfolded-sized kept unfolds) (λ no. no) hs ht v))
+  coarse-5-exactly {q} {j} {p} positive small v =
+      path-5-exactly
+      (rest-of (check 9 (StepOutside q) ∷ []) (analysis.PathVerdict graph) j p (step-kept positive small, tt) (past-question (unfolded-sized kept unfolds) (λ no. no) hs ht v))
 
 pub handed-5-exactly : {g : ProcessGraph} {K : ℕ} {Short : Type 0} {a : Unfolded} {ss₀ ts₀ : List ℕ} {ds₀ Ds₀ : List ℤ} {ss ts : List ℕ} {ds Ds : List ℤ}
     → Answered g K Short a → a .refusal ≡ 0 → Written g K a ss₀ ts₀ ds₀ Ds₀ ss ts ds Ds

@@ -18,20 +18,18 @@ use lib.ListN.{take, drop, take-append-drop}
 use lib.Seq.{ext-getD}
 use Rattle.graphs.specs.Graph as Event
 use Rattle.graphs.specs.Graph.{Graph}
-use Rattle.verdicts.proofs.Verdicts.{lowest-unique, at-zero-unique, first-unique, accepted-unique}
+use Rattle.verdicts.proofs.Verdicts.{one-verdict}
 use Rattle.processes.specs.declared.Unfolded.{Unfolded}
 use Rattle.processes.specs.Process.{ProcessGraph, templates, number}
-use Rattle.processes.specs.Unfolding.{Verdict, Unfolds, Answered, Written}
+use Rattle.processes.specs.Unfolding.{processChecks, Verdict, Unfolds, Answered, Written}
 use Rattle.processes.proofs.Numbers.{place-found}
 use Rattle.processes.proofs.Exactly.{instance-unique, rule-at-place}
+use Rattle.processes.proofs.Refusals.{process-places}
 
 -- ---- the answer
 
 pub unfolding-verdict-unique : {g : ProcessGraph} {K : ℕ} {Short : Type 0} {i p j q : ℕ} → Verdict g K Short i p → Verdict g K Short j q → (i ≡ j) × (p ≡ q)
-unfolding-verdict-unique =
-    first-unique (λ p q. at-zero-unique)
-    (λ i p j q. first-unique (λ p q. lowest-unique)
-    (λ i p j q. first-unique (λ p q. lowest-unique) (λ i p j q. first-unique (λ p q. lowest-unique) (λ i p j q. accepted-unique))))
+unfolding-verdict-unique {g} {K} {Short} {i} {p} {j} {q} v w = one-verdict (processChecks g K Short) (process-places g K Short) i p j q v w
 
 pub answered-exactly : {g : ProcessGraph} {K : ℕ} {Short : Type 0} {a : Unfolded} → Answered g K Short a → {j p : ℕ} → Verdict g K Short j p → (a .refusal ≡ j) × (a .place ≡ p)
 answered-exactly x v = unfolding-verdict-unique (x .verdict) v
