@@ -14,11 +14,12 @@ use Prim.Native.Nat.{ℕ, _+_, _*_, _<_}
 use native.Mathlib.Decide.{ℕ-discrete}
 use native.Mathlib.Omega.{arith}
 use lib.ListN.{length}
+use Rattle.sequences.proofs.Lengths.{stable}
 use Rattle.verdicts.specs.Verdict.{AtZero, Lowest}
 use Rattle.verdicts.proofs.Verdicts.{OnePlaces, Misses, NoneApplies, lowest-unique, at-zero-unique, none-lowest, Alike, more-alike, alike-refl}
 use Rattle.graphs.specs.Graph.{Graph, graphOf}
 use Rattle.graphs.specs.Limits.{EndsKept, DelaysKept}
-use Rattle.graphs.proofs.Unique.{stable, known-ends, ends-kept, inside-delays, delays-kept}
+use Rattle.graphs.proofs.Unique.{known-ends, ends-kept, inside-delays, delays-kept}
 use Rattle.processes.specs.Checks.{CountsKept, MarkKept}
 use Rattle.processes.specs.Process.{ProcessGraph, templates, mark}
 use Rattle.processes.specs.Unfolding.{

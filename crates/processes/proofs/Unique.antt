@@ -4,18 +4,17 @@
 --     answered-exactly            a refusal is given exactly when its rule says: whatever number and place the verdict allows, the answer has them
 --     SameEntries i               rule i of two event graphs is the same
 --     graphs-agree                two event graphs that are the unfolding of one process graph are equal
---     same-list                   lists that agree up to n and beyond are equal
 --     Same, written-unique        what two runs leave in the four lists
 --     unfold-unique               all of it: two results of `unfold` are equal
 -- Assumes nothing.
 use mathlib.Core.Path.{_≡_, sym, ap, subst, _∙_}
-use mathlib.Core.List.{List, _++_}
+use mathlib.Core.List.{List}
 use Prim.Native.Nat.{ℕ, _*_, _<_}
 use native.Mathlib.Decide.{ℕ-discrete}
 use native.Mathlib.Omega.{arith}
 use lib.IntN.{ℤ, pos}
-use lib.ListN.{take, drop, take-append-drop}
 use lib.Seq.{ext-getD}
+use Rattle.sequences.proofs.Same.{same-parts}
 use Rattle.graphs.specs.Graph as Event
 use Rattle.graphs.specs.Graph.{Graph}
 use Rattle.verdicts.proofs.Verdicts.{one-verdict}
@@ -84,9 +83,6 @@ module _ {g : ProcessGraph} {K : ℕ} {graph graph′ : Graph} (x : Unfolds g K 
       let events : graph .events ≡ graph′ .events = x .event-count ∙ sym (y .event-count) in
       λ i. record { events = events i; sources = sources i; targets = targets i; leasts = leasts i; mosts = mosts i }
 
-pub same-list : {A : Type 0} (n : ℕ) (xs ys : List A) → take n xs ≡ take n ys → drop n xs ≡ drop n ys → xs ≡ ys
-same-list n xs ys up-to beyond = sym (take-append-drop n xs) ∙ (λ i. up-to i ++ beyond i) ∙ take-append-drop n ys
-
 pub record Same (ss ss′ ts ts′ : List ℕ) (ds ds′ Ds Ds′ : List ℤ) : Type 0 where
   pub sources : ss ≡ ss′
   pub targets : ts ≡ ts′
@@ -102,10 +98,10 @@ written-unique {g} {K} {a} {ss = ss} {ss′} {ts} {ts′} {ds} {ds′} {Ds} {Ds�
     go (yes e) =
         let graphs = graphs-agree (w .unfolds e) (w′ .unfolds e) in
         record {
-          sources = same-list (templates g * K) ss ss′ (ap (λ (h : Graph). h .sources) graphs) (w .sources-beyond e ∙ sym (w′ .sources-beyond e));
-          targets = same-list (templates g * K) ts ts′ (ap (λ (h : Graph). h .targets) graphs) (w .targets-beyond e ∙ sym (w′ .targets-beyond e));
-          leasts = same-list (templates g * K) ds ds′ (ap (λ (h : Graph). h .leasts) graphs) (w .leasts-beyond e ∙ sym (w′ .leasts-beyond e));
-          mosts = same-list (templates g * K) Ds Ds′ (ap (λ (h : Graph). h .mosts) graphs) (w .mosts-beyond e ∙ sym (w′ .mosts-beyond e));
+          sources = same-parts (templates g * K) ss ss′ (ap (λ (h : Graph). h .sources) graphs) (w .sources-beyond e ∙ sym (w′ .sources-beyond e));
+          targets = same-parts (templates g * K) ts ts′ (ap (λ (h : Graph). h .targets) graphs) (w .targets-beyond e ∙ sym (w′ .targets-beyond e));
+          leasts = same-parts (templates g * K) ds ds′ (ap (λ (h : Graph). h .leasts) graphs) (w .leasts-beyond e ∙ sym (w′ .leasts-beyond e));
+          mosts = same-parts (templates g * K) Ds Ds′ (ap (λ (h : Graph). h .mosts) graphs) (w .mosts-beyond e ∙ sym (w′ .mosts-beyond e));
         }
     go (no n) =
         record {
