@@ -15,7 +15,7 @@ use lib.IntN.{ℤ, pos, negℤ, _+ℤ_, _-ℤ_}
 use lib.Signed.{_≤ℤ_, leZ}
 use Rattle.integers.proofs.Integer.{P, N, linear, sum, difference, minℤ}
 use Rattle.graphs.specs.Graph.{Graph, rules, source, target, least, most, Greatest}
-use Rattle.graphs.specs.Limits.{EventGraph}
+use Rattle.graphs.specs.Limits.{SoundGraph}
 use Rattle.graphs.proofs.Greatest.{greatest-exists}
 use Rattle.executions.specs.Execution.{Execution, Between, Bounded}
 use Rattle.executions.specs.Steps.{Lesser}
@@ -42,7 +42,7 @@ greatest-delay {g} {time} {i} {x} keeps ordered l =
     above y low high late (inl e) = omega (linear, difference (time (target g i)) (time (source g i)), sum (time (source g i)) y)
     above y low high late (inr e) = omega linear
 
-module _ {b : ℕ} {g : Graph} (eg : EventGraph b g) where
+module _ {g : Graph} (sound : SoundGraph g) where
   pub executes : {delay time : ℕ → ℤ} → time 0 ≡ pos 0 → KeepsLeast g time → ((v : ℕ) → v < g .events → (v ≡ 0 → ⊥) → Reaches g time v) → ((i : ℕ) → i < rules g → GreatestDelay g time i (delay i)) → Execution g delay time
   executes {delay} {time} root keeps reaches delays =
       record {
@@ -73,7 +73,7 @@ module _ {b : ℕ} {g : Graph} (eg : EventGraph b g) where
   bounds-keep {time} x =
       record {
         keeps = λ i h.
-            let o : Between g time (target g i) = x .others (target g i) (eg .sized .ends i h .target-known) (target-is-other eg i h) in
+            let o : Between g time (target g i) = x .others (target g i) (sound .ends i h .target-known) (target-is-other sound i h) in
             omega (linear, o .earliest-greatest .bound i h refl, o .after);
       }
 
@@ -87,7 +87,7 @@ module _ {b : ℕ} {g : Graph} (eg : EventGraph b g) where
     λ i. minℤ (time (target g i) -ℤ time (source g i)) (most g i),
     executes (x .root) (bounds-keep x) (λ v h n. bounds-reach v (x .others v h n))
         (λ i h.
-        greatest-delay (bounds-keep x .keeps i h) (eg .sized .delays i h .ordered)
+        greatest-delay (bounds-keep x .keeps i h) (sound .ordered i h)
         (lesser-min (time (target g i) -ℤ time (source g i)) (most g i))),
   )
 

@@ -8,11 +8,11 @@
 use mathlib.Core.Path.{_≡_, refl}
 use mathlib.Core.Logic.{_⊎_, inl, inr}
 use Prim.Native.Nat.{ℕ, _+_, _≤_, _<_}
-use native.Mathlib.Decide.{ℕ-discrete}
 use native.Mathlib.Omega.{arith}
 use lib.IntN.{ℤ, pos}
 use lib.Signed.{_≤ℤ_, _<ℤ_}
 use lib.ListN.{length}
+use Rattle.sequences.proofs.Lengths.{stable}
 use Rattle.integers.proofs.Integer.{P, N, <ℤ-from, linear, negation}
 use Rattle.graphs.specs.Graph.{Graph, rules, source, target, least, most}
 use Rattle.graphs.specs.Path.{Depth}
@@ -28,13 +28,6 @@ depth-unique a b =
     omega (arith, a .bound q, b .bound p)
 
 -- ---- refusal 1
-
-pub stable : (m n : ℕ) → ((m ≡ n → ⊥) → ⊥) → m ≡ n
-stable m n h = by (ℕ-discrete m n)
-  where
-    by : Dec (m ≡ n) → m ≡ n
-    by (yes e) = e
-    by (no other) = absurd (h other)
 
 pub counts-kept : {g : Graph} → (CountsOutside g → ⊥) → CountsKept g
 counts-kept {g} inside =

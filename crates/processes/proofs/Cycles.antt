@@ -22,7 +22,7 @@ use Prim.Native.Nat.{ℕ, suc, _+_, _*_, _<_, _≤_}
 use native.Mathlib.Omega.{arith}
 use lib.IntN.{ℤ}
 use lib.ListN.{take}
-use Rattle.graphs.specs.Graph as event
+use Rattle.graphs.specs.Graph as rule
 use Rattle.graphs.specs.Graph.{Graph, graphOf, rules}
 use Rattle.graphs.specs.Path.{Path, stay, step, steps, HasCycle}
 use Rattle.graphs.specs.Refusal.{pathChecks}
@@ -38,7 +38,7 @@ use Rattle.processes.specs.declared.Event.{Event}
 use Rattle.processes.specs.declared.Unfolded.{Unfolded}
 use Rattle.processes.specs.Process.{ProcessGraph, templates, source, target, occurrence, Node, at, number, Instance, together, onward, start}
 use Rattle.processes.specs.Ways.{MarkZeroWay, empty, along, templatesOn, MarkZeroCycle}
-use Rattle.processes.specs.Unfolding.{Unfolds, Answered, Written}
+use Rattle.processes.specs.Unfolding.{Unfolds, UnfoldingAnswered, UnfoldingWritten}
 use Rattle.processes.proofs.Numbers.{place-below, Place, place-found}
 use Rattle.processes.proofs.Occurrences.{event-same, numbers-apart, never-root}
 use Rattle.processes.proofs.Exactly.{instance-unique, rule-at-place}
@@ -109,7 +109,7 @@ module _ {g : ProcessGraph} {K : ℕ} {graph : Graph} (unfolds : Unfolds g K gra
   place-of : (i : ℕ) → i < rules graph → Place (templates g) K i
   place-of i l = place-found (templates g) K i (omega (arith, unfolds .sources-count))
 
-  rule-enters : (i : ℕ) (p : Place (templates g) K i) → event.target graph i ≡ occurrence g (p .row) (target g (p .within)) .0
+  rule-enters : (i : ℕ) (p : Place (templates g) K i) → rule.target graph i ≡ occurrence g (p .row) (target g (p .within)) .0
   rule-enters i p =
       let r = rule-at-place unfolds i p in
       r .to-number ∙ ap number (instance-enters (r .instance))
@@ -169,7 +169,7 @@ module _ {g : ProcessGraph} {K : ℕ} {graph : Graph} (kept : Kept g K) (unfolds
       (rest-of (check 9 (StepOutside q) ∷ []) (analysis.PathVerdict graph) j p (step-kept positive small, tt) (past-question (unfolded-sized kept unfolds) (λ no. no) hs ht v))
 
 pub handed-5-exactly : {g : ProcessGraph} {K : ℕ} {Short : Type 0} {a : Unfolded} {ss₀ ts₀ : List ℕ} {ds₀ Ds₀ : List ℤ} {ss ts : List ℕ} {ds Ds : List ℤ}
-    → Answered g K Short a → a .refusal ≡ 0 → Written g K a ss₀ ts₀ ds₀ Ds₀ ss ts ds Ds
+    → UnfoldingAnswered g K Short a → a .refusal ≡ 0 → UnfoldingWritten g K a ss₀ ts₀ ds₀ Ds₀ ss ts ds Ds
     → {s t : ℕ} {Short′ : Type 0} {answer : Answer} → (Short′ → ⊥) → s < a .events → t < a .events
     → analysis.Answered (graphOf (a .events) (take (a .rules) ss) (take (a .rules) ts) (take (a .rules) ds) (take (a .rules) Ds)) s t Short′ answer
     → (answer .refusal ≡ 5) ↔ MarkZeroCycle g

@@ -26,7 +26,7 @@ use Rattle.faults.specs.Faults.{InsideDelays}
 use Rattle.separation.specs.Promise as analysis
 use Rattle.processes.specs.declared.Unfolded.{Unfolded}
 use Rattle.processes.specs.Process.{ProcessGraph, templates, source, target, Node, number, Instance, together, onward, start}
-use Rattle.processes.specs.Unfolding.{processChecks, Verdict, Unfolds, Answered, Written}
+use Rattle.processes.specs.Unfolding.{processChecks, UnfoldingVerdict, Unfolds, UnfoldingAnswered, UnfoldingWritten}
 use Rattle.processes.proofs.Numbers.{place-found}
 use Rattle.processes.proofs.Exactly.{rule-at-place}
 use Rattle.processes.proofs.Occurrences.{occurrence-below}
@@ -35,11 +35,11 @@ use Rattle.processes.proofs.Refusals.{Kept, process-none, process-kept}
 -- ---- a process graph that is kept
 
 -- "unfolding 1, 2, 3, 7": where the verdict is 0 none applies
-pub kept-of : {g : ProcessGraph} {K : ℕ} {Short : Type 0} {j p : ℕ} → Verdict g K Short j p → j ≡ 0 → (Kept g K) × (Short → ⊥)
+pub kept-of : {g : ProcessGraph} {K : ℕ} {Short : Type 0} {j p : ℕ} → UnfoldingVerdict g K Short j p → j ≡ 0 → (Kept g K) × (Short → ⊥)
 kept-of {g} {K} {Short} {j} {p} v e =
     process-kept (accepted-none (processChecks g K Short) Accepted (omega arith, (omega arith, (omega arith, (omega arith, tt)))) j p e v .0)
 
-pub kept-accepted : {g : ProcessGraph} {K : ℕ} {Short : Type 0} → Kept g K → (Short → ⊥) → Verdict g K Short 0 0
+pub kept-accepted : {g : ProcessGraph} {K : ℕ} {Short : Type 0} → Kept g K → (Short → ⊥) → UnfoldingVerdict g K Short 0 0
 kept-accepted {g} {K} {Short} kept room = none-accepted (processChecks g K Short) (process-none room kept)
 
 -- ---- its unfolding
@@ -124,7 +124,7 @@ only-paths-refused {graph = graph} kept unfolds {j = j} {p} room hs ht v =
     verdict-number (pathChecks graph) j p (past-question (unfolded-sized kept unfolds) room hs ht v)
 
 module _ {g : ProcessGraph} {K : ℕ} {Short : Type 0} {a : Unfolded} {ss₀ ts₀ : List ℕ} {ds₀ Ds₀ : List ℤ} {ss ts : List ℕ} {ds Ds : List ℤ}
-    (answered : Answered g K Short a) (not-refused : a .refusal ≡ 0) (written : Written g K a ss₀ ts₀ ds₀ Ds₀ ss ts ds Ds) where
+    (answered : UnfoldingAnswered g K Short a) (not-refused : a .refusal ≡ 0) (written : UnfoldingWritten g K a ss₀ ts₀ ds₀ Ds₀ ss ts ds Ds) where
   pub handed : (Kept g K) × Unfolds g K (graphOf (a .events) (take (a .rules) ss) (take (a .rules) ts) (take (a .rules) ds) (take (a .rules) Ds))
   handed =
       let here : Unfolds g K (graphOf (1 + g .events * K) (take (templates g * K) ss) (take (templates g * K) ts) (take (templates g * K) ds) (take (templates g * K) Ds)) = written .unfolds not-refused in (

@@ -1,12 +1,12 @@
 -- Laws of the refusals of a process graph.
---     plain g             the templates of g, read as the rules of an event graph
---     Kept g K            every rule of 01 for process graphs is kept
---     process-places      each check of the list has one place
---     counts-of, ends-of, delays-of, mark-of    what the absence of each refusal says; counts-inside is the first one's converse
+--     plain g                                            the templates of g, read as the rules of an event graph
+--     Kept g K                                           every rule of 01 for process graphs is kept
+--     process-places                                     each check of the list has one place
+--     counts-of, ends-of, delays-of, mark-of             what the absence of each refusal says; counts-inside is the first one's converse
 --     counts-miss, ends-miss, delays-miss, marks-miss    where what it asks is kept, the refusal applies nowhere
---     process-none        so where all is kept and the lists are long enough, no check of the list applies
---     process-kept        and only there
---     short-alike         the checks, where "too short" is said in two ways
+--     process-none                                       so where all is kept and the lists are long enough, no check of the list applies
+--     process-kept                                       and only there
+--     short-alike                                        the checks, where "too short" is said in two ways
 -- Assumes nothing.
 use mathlib.Core.Path.{_≡_, refl}
 use mathlib.Core.Logic.{_⊎_, inl, inr, ⊎-elim}
@@ -14,15 +14,16 @@ use Prim.Native.Nat.{ℕ, _+_, _*_, _<_}
 use native.Mathlib.Decide.{ℕ-discrete}
 use native.Mathlib.Omega.{arith}
 use lib.ListN.{length}
+use Rattle.sequences.proofs.Lengths.{stable}
 use Rattle.verdicts.specs.Verdict.{AtZero, Lowest}
 use Rattle.verdicts.proofs.Verdicts.{OnePlaces, Misses, NoneApplies, lowest-unique, at-zero-unique, none-lowest, Alike, more-alike, alike-refl}
 use Rattle.graphs.specs.Graph.{Graph, graphOf}
 use Rattle.graphs.specs.Limits.{EndsKept, DelaysKept}
-use Rattle.graphs.proofs.Unique.{stable, known-ends, ends-kept, inside-delays, delays-kept}
-use Rattle.processes.specs.Checks.{CountsKept, MarkKept}
+use Rattle.graphs.proofs.Unique.{known-ends, ends-kept, inside-delays, delays-kept}
+use Rattle.processes.specs.Inner.Checks.{ProcessCountsKept, MarkKept}
 use Rattle.processes.specs.Process.{ProcessGraph, templates, mark}
 use Rattle.processes.specs.Unfolding.{
-  CountsOutside,
+  ProcessCountsOutside,
   no-events,
   no-copies,
   many-occurrences,
@@ -31,8 +32,8 @@ use Rattle.processes.specs.Unfolding.{
   leasts-differ,
   mosts-differ,
   marks-differ,
-  UnknownEvent,
-  DelayOutside,
+  UnknownTemplateEvent,
+  TemplateDelayOutside,
   MarkOutside,
   processChecks,
 }
@@ -42,7 +43,7 @@ plain g = graphOf (g .events) (g .sources) (g .targets) (g .leasts) (g .mosts)
 
 -- "p ≥ 1", "K ≥ 1", "1 + p × K ≤ 1,024 and templates × K ≤ 4,096", one entry for each template in each of the five lists
 pub record Kept (g : ProcessGraph) (K : ℕ) : Type 0 where
-  pub counts : CountsKept g K
+  pub counts : ProcessCountsKept g K
   pub ends : (j : ℕ) → j < templates g → EndsKept (plain g) j
   pub delays : (j : ℕ) → j < templates g → DelaysKept 1000000 (plain g) j
   pub marks : (j : ℕ) → j < templates g → MarkKept (g .marks) j
@@ -55,7 +56,7 @@ process-places g K Short = (at-zero-unique, (lowest-unique, (lowest-unique, (low
 -- ---- what the absence of each refusal says
 
 module _ {g : ProcessGraph} {K : ℕ} where
-  pub counts-of : (CountsOutside g K → ⊥) → CountsKept g K
+  pub counts-of : (ProcessCountsOutside g K → ⊥) → ProcessCountsKept g K
   counts-of inside =
       let some : g .events ≡ 0 → ⊥ = λ e. inside (no-events e) in
       let copies : K ≡ 0 → ⊥ = λ e. inside (no-copies e) in
@@ -72,7 +73,7 @@ module _ {g : ProcessGraph} {K : ℕ} where
         marks-match = stable (length (g .marks)) (templates g) (λ d. inside (marks-differ d));
       }
 
-  pub counts-inside : CountsKept g K → CountsOutside g K → ⊥
+  pub counts-inside : ProcessCountsKept g K → ProcessCountsOutside g K → ⊥
   counts-inside kept (no-events e) = omega (arith, kept .some-event)
   counts-inside kept (no-copies e) = omega (arith, kept .some-copy)
   counts-inside kept (many-occurrences l) = omega (arith, kept .few-occurrences)
@@ -83,10 +84,10 @@ module _ {g : ProcessGraph} {K : ℕ} where
   counts-inside kept (marks-differ d) = d (kept .marks-match)
 
 module _ {g : ProcessGraph} where
-  pub ends-of : (j : ℕ) → j < templates g → (UnknownEvent g j → ⊥) → EndsKept (plain g) j
+  pub ends-of : (j : ℕ) → j < templates g → (UnknownTemplateEvent g j → ⊥) → EndsKept (plain g) j
   ends-of j l known = known-ends l (λ u. known (record { is-template = u .is-rule; unknown = u .unknown }))
 
-  pub delays-of : (j : ℕ) → j < templates g → (DelayOutside g j → ⊥) → DelaysKept 1000000 (plain g) j
+  pub delays-of : (j : ℕ) → j < templates g → (TemplateDelayOutside g j → ⊥) → DelaysKept 1000000 (plain g) j
   delays-of j l inside = inside-delays l (λ o. inside (record { is-template = o .is-rule; outside = o .outside }))
 
   pub mark-of : (j : ℕ) → j < templates g → (MarkOutside g j → ⊥) → MarkKept (g .marks) j
@@ -100,14 +101,14 @@ module _ {g : ProcessGraph} where
 -- ---- where nothing is refused
 
 module _ {g : ProcessGraph} {K : ℕ} {Short : Type 0} where
-  pub counts-miss : (Short → ⊥) → CountsKept g K → Misses (AtZero (CountsOutside g K ⊎ Short))
+  pub counts-miss : (Short → ⊥) → ProcessCountsKept g K → Misses (AtZero (ProcessCountsOutside g K ⊎ Short))
   counts-miss room counts p a = ⊎-elim (counts-inside counts) room (a .holds)
 
 module _ {g : ProcessGraph} where
-  pub ends-miss : ((j : ℕ) → j < templates g → EndsKept (plain g) j) → Misses (Lowest (UnknownEvent g))
+  pub ends-miss : ((j : ℕ) → j < templates g → EndsKept (plain g) j) → Misses (Lowest (UnknownTemplateEvent g))
   ends-miss ends p a = ends-kept (ends p (a .holds .is-template)) (record { is-rule = a .holds .is-template; unknown = a .holds .unknown })
 
-  pub delays-miss : ((j : ℕ) → j < templates g → DelaysKept 1000000 (plain g) j) → Misses (Lowest (DelayOutside g))
+  pub delays-miss : ((j : ℕ) → j < templates g → DelaysKept 1000000 (plain g) j) → Misses (Lowest (TemplateDelayOutside g))
   delays-miss delays p a = delays-kept (delays p (a .holds .is-template)) (record { is-rule = a .holds .is-template; outside = a .holds .outside })
 
   pub marks-miss : ((j : ℕ) → j < templates g → MarkKept (g .marks) j) → Misses (Lowest (MarkOutside g))

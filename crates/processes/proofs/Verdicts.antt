@@ -1,11 +1,11 @@
 -- The answer to an unfolding, put together from the checks.
---     known-kept, inside-kept             what a search calls good is kept
+--     known-kept, inside-kept                          what a search calls good is kept
 --     lowest-unknown, lowest-outside, lowest-broken    a search that stopped has found the lowest template that breaks the rule
---     process-1 … process-7, process-0    the refusals, each from the facts that shut out the earlier ones, and that none applies
---     refusal-checked, kept-checked       what check_process answers
---     kept-enough                         as many places as rules are enough
---     some-short, shortest                one of four lists is too short exactly where the shortest is
---     answered-short                      the answer for the four lists, from that for the shortest
+--     process-1 … process-7, process-0                 the refusals, each from the facts that shut out the earlier ones, and that none applies
+--     refusal-checked, kept-checked                    what check_process answers
+--     kept-enough                                      as many places as rules are enough
+--     some-short, shortest                             one of four lists is too short exactly where the shortest is
+--     answered-short                                   the answer for the four lists, from that for the shortest
 -- Assumes nothing.
 use mathlib.Core.Path.{_≡_, refl, sym, subst₂}
 use mathlib.Core.Logic.{_⊎_, inl, inr, ⊎-elim}
@@ -22,8 +22,8 @@ use Rattle.faults.specs.Faults.{EndsKnown, EndUnknown, InsideDelays, DelaysInsi
 use Rattle.faults.proofs.Unique.{known-not-unknown, inside-not-outside}
 use Rattle.processes.specs.declared.Unfolded.{Unfolded}
 use Rattle.processes.specs.Process.{ProcessGraph, templates, source, target, least, most, mark}
-use Rattle.processes.specs.Unfolding.{CountsOutside, ShortLists, short-sources, short-targets, short-leasts, short-mosts, UnknownEvent, DelayOutside, MarkOutside, processChecks, Verdict, Answered}
-use Rattle.processes.specs.Checks.{CountsKept, MarkKept, MarkBroken, ProcessKept, ProcessChecked}
+use Rattle.processes.specs.Unfolding.{ProcessCountsOutside, ShortRuleLists, short-sources, short-targets, short-leasts, short-mosts, UnknownTemplateEvent, TemplateDelayOutside, MarkOutside, processChecks, UnfoldingVerdict, UnfoldingAnswered}
+use Rattle.processes.specs.Inner.Checks.{ProcessCountsKept, MarkKept, MarkBroken, ProcessKept, ProcessChecked}
 use Rattle.processes.proofs.Refusals.{plain, counts-miss, ends-miss, delays-miss, process-none, short-alike}
 
 module _ (g : ProcessGraph) where
@@ -39,17 +39,17 @@ module _ {g : ProcessGraph} {r : ℕ} where
   pub lowest-unknown : length (g .targets) ≡ templates g →
       LowestOr (min (length (g .sources)) (length (g .targets))) (EndsKnown (g .events) (g .sources) (g .targets)) (EndUnknown (g .events) (g .sources) (g .targets)) r →
       r < length (g .sources) →
-      Lowest (UnknownEvent g) r
+      Lowest (UnknownTemplateEvent g) r
   lowest-unknown e h =
-      lowest-bad (UnknownEvent g) (λ j _ known u. known-not-unknown known (u .unknown)) (λ j l unknown. record { is-template = l; unknown = unknown }) (as-long e h)
+      lowest-bad (UnknownTemplateEvent g) (λ j _ known u. known-not-unknown known (u .unknown)) (λ j l unknown. record { is-template = l; unknown = unknown }) (as-long e h)
 
   pub lowest-outside : length (g .mosts) ≡ length (g .leasts) →
       length (g .leasts) ≡ templates g →
       LowestOr (min (length (g .leasts)) (length (g .mosts))) (DelaysInside (g .leasts) (g .mosts)) (DelaysOutside (g .leasts) (g .mosts)) r →
       r < length (g .leasts) →
-      Lowest (DelayOutside g) r
+      Lowest (TemplateDelayOutside g) r
   lowest-outside e f h =
-      lowest-bad (DelayOutside g) (λ j _ inside o. inside-not-outside inside (o .outside)) (λ j l outside. record { is-template = omega arith; outside = outside }) (as-long e h)
+      lowest-bad (TemplateDelayOutside g) (λ j _ inside o. inside-not-outside inside (o .outside)) (λ j l outside. record { is-template = omega arith; outside = outside }) (as-long e h)
 
   pub lowest-broken : length (g .marks) ≡ templates g →
       LowestOr (length (g .marks)) (MarkKept (g .marks)) (MarkBroken (g .marks)) r →
@@ -64,24 +64,24 @@ module _ {g : ProcessGraph} {r : ℕ} where
 -- ---- the verdict
 
 module _ {g : ProcessGraph} {K n : ℕ} where
-  pub process-1 : CountsOutside g K ⊎ (n < templates g * K) → Verdict g K (n < templates g * K) 1 0
+  pub process-1 : ProcessCountsOutside g K ⊎ (n < templates g * K) → UnfoldingVerdict g K (n < templates g * K) 1 0
   process-1 h = given (record { zero-place = refl; holds = h })
 
-  module _ (counts : CountsKept g K) (room : templates g * K ≤ n) where
-    pub process-2 : {p : ℕ} → Lowest (UnknownEvent g) p → Verdict g K (n < templates g * K) 2 p
+  module _ (counts : ProcessCountsKept g K) (room : templates g * K ≤ n) where
+    pub process-2 : {p : ℕ} → Lowest (UnknownTemplateEvent g) p → UnfoldingVerdict g K (n < templates g * K) 2 p
     process-2 h = passed (counts-miss (λ l. omega arith) counts) (given h)
 
     module _ (known : (j : ℕ) → j < templates g → EndsKnown (g .events) (g .sources) (g .targets) j) where
-      pub process-3 : {p : ℕ} → Lowest (DelayOutside g) p → Verdict g K (n < templates g * K) 3 p
+      pub process-3 : {p : ℕ} → Lowest (TemplateDelayOutside g) p → UnfoldingVerdict g K (n < templates g * K) 3 p
       process-3 h = passed (counts-miss (λ l. omega arith) counts) (passed (ends-miss (known-kept g known)) (given h))
 
       module _ (inside : (j : ℕ) → j < templates g → InsideDelays (least g j) (most g j)) where
-        pub process-7 : {p : ℕ} → Lowest (MarkOutside g) p → Verdict g K (n < templates g * K) 7 p
+        pub process-7 : {p : ℕ} → Lowest (MarkOutside g) p → UnfoldingVerdict g K (n < templates g * K) 7 p
         process-7 h =
             passed (counts-miss (λ l. omega arith) counts)
             (passed (ends-miss (known-kept g known)) (passed (delays-miss (inside-kept g inside)) (given h)))
 
-        pub process-0 : ((j : ℕ) → j < templates g → MarkKept (g .marks) j) → Verdict g K (n < templates g * K) 0 0
+        pub process-0 : ((j : ℕ) → j < templates g → MarkKept (g .marks) j) → UnfoldingVerdict g K (n < templates g * K) 0 0
         process-0 marked =
             none-accepted (processChecks g K (n < templates g * K))
             (process-none (λ l. omega arith)
@@ -91,13 +91,13 @@ module _ {g : ProcessGraph} {K n : ℕ} where
 
   pub refusal-checked : (k p : ℕ) {a : Unfolded} → 0 < k →
       (a .refusal ≡ k) × (a .place ≡ p) × (a .events ≡ 0) × (a .rules ≡ 0) →
-      Verdict g K (n < templates g * K) k p →
+      UnfoldingVerdict g K (n < templates g * K) k p →
       ProcessChecked g K n a
   refusal-checked k p {a} positive r v =
       record {
         answered =
             record {
-              verdict = subst₂ (Verdict g K (n < templates g * K)) (sym (r .0)) (sym (r .1)) v;
+              verdict = subst₂ (UnfoldingVerdict g K (n < templates g * K)) (sym (r .0)) (sym (r .1)) v;
               event-count = λ e. absurd (let no : ⊥ = omega (arith, r .0) in no);
               rule-count = λ e. absurd (let no : ⊥ = omega (arith, r .0) in no);
               no-events = λ _. r .2;
@@ -131,22 +131,22 @@ module _ {g : ProcessGraph} {K n : ℕ} where
 -- ---- the four lists for the shortest
 
 module _ {g : ProcessGraph} {K n : ℕ} {ss ts : List ℕ} {ds Ds : List ℤ} where
-  pub some-short : (n ≡ length ss) ⊎ ((n ≡ length ts) ⊎ ((n ≡ length ds) ⊎ (n ≡ length Ds))) → n < templates g * K → ShortLists g K ss ts ds Ds
+  pub some-short : (n ≡ length ss) ⊎ ((n ≡ length ts) ⊎ ((n ≡ length ds) ⊎ (n ≡ length Ds))) → n < templates g * K → ShortRuleLists g K ss ts ds Ds
   some-short (inl e) l = short-sources (omega arith)
   some-short (inr (inl e)) l = short-targets (omega arith)
   some-short (inr (inr (inl e))) l = short-leasts (omega arith)
   some-short (inr (inr (inr e))) l = short-mosts (omega arith)
 
-  pub shortest : n ≤ length ss → n ≤ length ts → n ≤ length ds → n ≤ length Ds → ShortLists g K ss ts ds Ds → n < templates g * K
+  pub shortest : n ≤ length ss → n ≤ length ts → n ≤ length ds → n ≤ length Ds → ShortRuleLists g K ss ts ds Ds → n < templates g * K
   shortest s t d D (short-sources l) = omega arith
   shortest s t d D (short-targets l) = omega arith
   shortest s t d D (short-leasts l) = omega arith
   shortest s t d D (short-mosts l) = omega arith
 
 module _ {g : ProcessGraph} {K : ℕ} {S S′ : Type 0} where
-  verdict-short : (S → S′) → (S′ → S) → {k p : ℕ} → Verdict g K S k p → Verdict g K S′ k p
+  verdict-short : (S → S′) → (S′ → S) → {k p : ℕ} → UnfoldingVerdict g K S k p → UnfoldingVerdict g K S′ k p
   verdict-short f b {k} {p} v = then-alike (short-alike f b) Accepted k p v
 
-  pub answered-short : (S → S′) → (S′ → S) → {a : Unfolded} → Answered g K S a → Answered g K S′ a
+  pub answered-short : (S → S′) → (S′ → S) → {a : Unfolded} → UnfoldingAnswered g K S a → UnfoldingAnswered g K S′ a
   answered-short f b h =
       record { verdict = verdict-short f b (h .verdict); event-count = h .event-count; rule-count = h .rule-count; no-events = h .no-events; no-rules = h .no-rules }

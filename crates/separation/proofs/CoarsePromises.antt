@@ -23,6 +23,7 @@ use Rattle.graphs.proofs.Refusals.{question-places, path-places}
 use Rattle.graphs.proofs.Unique.{depth-unique}
 use Rattle.executions.specs.Separation.{Separation}
 use Rattle.rounding.specs.Rounding.{Costs}
+use Rattle.graphs.proofs.Limits.{sound-of}
 use Rattle.rounding.proofs.Costs.{costs-at-most, coarse-size, coarse-unique, step-one}
 use Rattle.separation.specs.declared.Answer.{Answer}
 use Rattle.separation.specs.Promise.{InputVerdict, PathVerdict, Answered}
@@ -58,7 +59,7 @@ module _ {g : Graph} {q s t : ℕ} where
   pub coarse-costs : {a : Answer} {x : ℤ} → CoarseAnswered g q s t a → a .refusal ≡ 0 → Separation g s t x → Costs q (a .«source_depth») (a .«target_depth») x (a .separation)
   coarse-costs p e exact =
       let f = p .found e in
-      costs-at-most (f .graph) (f .step-small) (f .source-known) (f .target-known) (f .depth-of-source) (f .depth-of-target) exact (f .greatest)
+      costs-at-most (sound-of (f .graph)) (f .source-known) (f .target-known) (f .depth-of-source) (f .depth-of-target) exact (f .greatest)
 
   pub answers-cost : {Short : Type 0} {a b : Answer} → Answered g s t Short a → a .refusal ≡ 0 → CoarseAnswered g q s t b → b .refusal ≡ 0 → Costs q (b .«source_depth») (b .«target_depth») (a .separation) (b .separation)
   answers-cost pa e pb f = coarse-costs pb f (pa .found e .greatest)

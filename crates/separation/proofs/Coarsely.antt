@@ -19,6 +19,7 @@ use Rattle.graphs.specs.Limits.{Sized, EventGraph}
 use Rattle.verdicts.specs.Verdict.{given, passed, Accepted, Lowest}
 use Rattle.verdicts.proofs.Verdicts.{none-alike, more-alike, then-alike}
 use Rattle.graphs.specs.Refusal.{Unreached}
+use Rattle.graphs.proofs.Limits.{sound-of}
 use Rattle.executions.specs.Separation.{Separation, SameRules}
 use Rattle.executions.proofs.Same.{same-exchanged, path-same, cycle-same, depth-same}
 use Rattle.executions.proofs.Schedules.{separation-of}
@@ -106,7 +107,7 @@ module _ {g : Graph} {q s t : ℕ} {a : Answer} where
               record {
                 graph = h;
                 rounded = rounded;
-                greatest = subst (Separation h s t) (sym (c .at-target)) (separation-of eh hs (c .found .steps) t ht);
+                greatest = subst (Separation h s t) (sym (c .at-target)) (separation-of (sound-of eh) hs (c .found .steps) t ht);
               };
           depth-of-source = depth-same same (c .depth-of-source);
           depth-of-target = depth-same same (c .depth-of-target);
