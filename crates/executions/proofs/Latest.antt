@@ -24,7 +24,7 @@ use Rattle.graphs.specs.Path.Path.{stay, step}
 use Rattle.graphs.specs.Limits.{SoundGraph}
 use Rattle.graphs.proofs.Rank.{rank-of}
 use Rattle.executions.specs.Execution.{Execution}
-use Rattle.executions.specs.Steps.{M, Lesser, Capped, UOf, U}
+use Rattle.executions.specs.Steps.{M, Capped, UOf, U}
 use Rattle.executions.specs.Steps.Capped.{with-m, without-m}
 use Rattle.executions.proofs.Rules.{KeepsLeast, Reaches, keeps-least, target-is-other, path-bound}
 

@@ -6,12 +6,11 @@
 --     readings-agree       both at once
 -- The idea. Given times by bounds, let each rule take the greatest delay in its interval that doesn't carry its source past its target's time.
 -- No event is then late; and the rule that bounds an event from above takes exactly the difference of the two times. Assumes nothing.
-use mathlib.Core.Path.{_≡_, refl, ap, sym, subst}
+use mathlib.Core.Path.{_≡_, refl, ap, subst}
 use mathlib.Core.Logic.{_⊎_, inl, inr, ⊎-elim, _↔_}
 use mathlib.Core.Bool.{Bool, true, false, cond}
-use Prim.Native.Nat.{ℕ, zero, suc, _<_}
-use native.Mathlib.Decide.{ℕ-discrete}
-use lib.IntN.{ℤ, pos, negℤ, _+ℤ_, _-ℤ_}
+use Prim.Native.Nat.{ℕ, _<_}
+use lib.IntN.{ℤ, pos, _+ℤ_, _-ℤ_}
 use lib.Signed.{_≤ℤ_, leZ}
 use Rattle.integers.proofs.Integer.{P, N, linear, sum, difference, minℤ}
 use Rattle.graphs.specs.Graph.{Graph, rules, source, target, least, most, Greatest}
@@ -20,7 +19,7 @@ use Rattle.graphs.proofs.Greatest.{greatest-exists}
 use Rattle.executions.specs.Execution.{Execution, Between, Bounded}
 use Rattle.executions.specs.Steps.{Lesser}
 use Rattle.executions.specs.Schedule.{GreatestDelay}
-use Rattle.executions.proofs.Rules.{KeepsLeast, Reaches, keeps-least, target-is-other}
+use Rattle.executions.proofs.Rules.{KeepsLeast, Reaches, target-is-other}
 
 pub lesser-min : (a b : ℤ) → Lesser a b (minℤ a b)
 lesser-min a b = go (leZ a b) refl

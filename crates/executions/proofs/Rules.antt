@@ -1,10 +1,10 @@
 -- What an execution says of a rule and of a path.
 --     KeepsLeast g time     every rule's target is at least its least delay after its source
 --     Reaches g time v      some rule into v has its most delay end no earlier than v
---     keeps-least           so it is in an execution of an event graph
+--     keeps-least           so it is in an execution of a sound graph
 --     path-bound            then the end of a path is at least the sum of its least delays after its start
 -- Assumes nothing.
-use mathlib.Core.Path.{_≡_, refl, ap, sym, subst}
+use mathlib.Core.Path.{_≡_, refl, ap}
 use Prim.Native.Nat.{ℕ, _<_}
 use lib.IntN.{ℤ, pos, _+ℤ_}
 use lib.Signed.{_≤ℤ_}

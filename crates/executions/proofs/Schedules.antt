@@ -3,8 +3,8 @@
 --     schedule-of          times that are `Latest` and the greatest delays are the schedule, with all that demand 2 says of it
 --     separation-of        "The answer is U(t)": U(v) is the greatest separation of v from s
 -- What is to be shown stands in Latest.antt and Readings.antt; here it is put together. Assumes nothing.
-use mathlib.Core.Path.{_≡_, refl, ap, sym, subst}
-use Prim.Native.Nat.{ℕ, zero, suc, _<_}
+use mathlib.Core.Path.{_≡_, refl, sym, subst}
+use Prim.Native.Nat.{ℕ, _<_}
 use lib.IntN.{ℤ, pos, _+ℤ_, _-ℤ_}
 use lib.Signed.{_≤ℤ_}
 use Rattle.integers.proofs.Integer.{P, N, linear, sum, difference, minℤ}

@@ -1,15 +1,14 @@
 -- Every choice of delays is an execution's: times follow from the delays taken, event by event, in an order where sources come first.
---     times-follow      for an event graph and any delay for each rule there are times with the root at 0 and every other event at the greatest arrival
+--     times-follow      for a sound graph and any delay for each rule there are times with the root at 0 and every other event at the greatest arrival
 -- The idea. `timeAt k v` is the time of v as k rounds find it: in a round each event other than the root takes the greatest arrival by the times of the round
 -- before. By `rank-of` an event's rank is below the number of events and above those of its sources, so after `rank v` rounds the time of v no longer
 -- changes (`settled`), and one round more says that it is the greatest arrival. Assumes nothing.
-use mathlib.Core.Path.{_≡_, refl, ap, sym, subst, _∙_}
-use Prim.Native.Nat.{ℕ, zero, suc, _<_, _≤_}
+use mathlib.Core.Path.{_≡_, refl, ap, sym, _∙_}
+use Prim.Native.Nat.{ℕ, zero, suc, _<_}
 use native.Mathlib.Decide.{ℕ-discrete, decLt}
 use native.Mathlib.Nat.{not-suc-le-zero}
 use native.Mathlib.Omega.{arith}
 use lib.IntN.{ℤ, pos, _+ℤ_}
-use lib.Signed.{_≤ℤ_}
 use Rattle.graphs.specs.Graph.{Graph, rules, source, target, Greatest}
 use Rattle.graphs.specs.Limits.{SoundGraph}
 use Rattle.graphs.proofs.Rank.{rank-of}

@@ -6,17 +6,18 @@
 --     graph-none, question-none, path-none         so where all is kept no check of the list applies
 --     graph-sized, question-sized                  and where none applies the graph is sized
 --     path-kept                                    and has no cycle
---     short-alike                                  the questions' checks, where "too short" is said in two ways
+--     cycle-exactly                                refusal 5 is given exactly where there is a cycle
+--     short-at, short-alike                        the questions' checks, where "too short" is said in two ways
 --     graph-verdict-unique                         a graph has one verdict
 --     graph-accepted, graph-place                  an accepted graph is sized and has no cycle; its place is 0
 --     graph-alone                                  asked about two of its events, with lists that are long enough, a graph is refused as it is alone
 -- Assumes nothing.
 use mathlib.Core.Path.{_≡_, refl}
-use mathlib.Core.Logic.{_⊎_, inl, inr, ⊎-elim}
+use mathlib.Core.Logic.{_⊎_, inl, inr, ⊎-elim, _↔_}
 use mathlib.Core.List.{[], _∷_, _++_}
 use Prim.Native.Nat.{ℕ, _<_, _≤_}
 use native.Mathlib.Omega.{arith}
-use Rattle.verdicts.specs.Verdict.{check, Accepted, FirstThen, FirstOf, AtZero, Lowest}
+use Rattle.verdicts.specs.Verdict.{check, given, Accepted, FirstThen, FirstOf, AtZero, Lowest}
 use Rattle.verdicts.proofs.Verdicts.{
   OnePlace,
   OnePlaces,
@@ -30,6 +31,8 @@ use Rattle.verdicts.proofs.Verdicts.{
   then-unique,
   one-verdict,
   then-more,
+  then-place,
+  not-accepted,
   rest-of,
   accepted-none,
   accepted-place,
@@ -102,13 +105,26 @@ module _ {g : Graph} where
   pub path-kept : NoneApplies (pathChecks g) → HasCycle g → ⊥
   path-kept none c = none .0 0 (record { zero-place = refl; holds = c })
 
-module _ {A B : Type 0} (f : A → B) (h : B → A) where
-  short-at : {C : Type 0} (p : ℕ) → AtZero (C ⊎ A) p → AtZero (C ⊎ B) p
-  short-at p a = record { zero-place = a .zero-place; holds = ⊎-elim inl (λ x. inr (f x)) (a .holds) }
+-- ---- refusal 5
 
-module _ {A B : Type 0} (f : A → B) (h : B → A) where
-  pub short-alike : {g : Graph} {s t : ℕ} → Alike (questionChecks g s t A) (questionChecks g s t B)
-  short-alike = more-alike (short-at f h) (short-at h f) (alike-refl _)
+-- a cycle is refused with 5, and where there is none another number is given
+pub cycle-exactly : {g : Graph} {j p : ℕ} → FirstOf (pathChecks g) j p → (j ≡ 5) ↔ HasCycle g
+cycle-exactly {g} {j} {p} v = (cycle-of, λ c. one-verdict (pathChecks g) (path-places g) j p 5 0 v (given (record { zero-place = refl; holds = c })) .0)
+  where
+    cycle-of : j ≡ 5 → HasCycle g
+    cycle-of e =
+        then-place (λ k q. k ≡ 5 → HasCycle g) (pathChecks g) Accepted j p
+        (λ q a _. a .holds, (λ q a six. absurd (let no : ⊥ = omega arith in no), tt))
+        (λ a five. not-accepted (λ zero. let no : ⊥ = omega arith in no) a)
+        v e
+
+-- ---- "too short", said in two ways
+
+pub short-at : {A B C : Type 0} → (A → B) → (p : ℕ) → AtZero (C ⊎ A) p → AtZero (C ⊎ B) p
+short-at f p a = record { zero-place = a .zero-place; holds = ⊎-elim inl (λ x. inr (f x)) (a .holds) }
+
+pub short-alike : {A B : Type 0} → (A → B) → (B → A) → {g : Graph} {s t : ℕ} → Alike (questionChecks g s t A) (questionChecks g s t B)
+short-alike f h = more-alike (short-at f) (short-at h) (alike-refl _)
 
 -- ---- a graph alone
 

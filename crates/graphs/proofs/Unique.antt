@@ -5,7 +5,7 @@
 --     inside-delays, delays-kept         the same of a rule's delays and refusal 3
 --     sized-of                           so a graph to which none of the three applies is sized
 -- Assumes nothing.
-use mathlib.Core.Path.{_≡_, refl}
+use mathlib.Core.Path.{_≡_}
 use mathlib.Core.Logic.{_⊎_, inl, inr}
 use Prim.Native.Nat.{ℕ, _+_, _≤_, _<_}
 use native.Mathlib.Omega.{arith}

@@ -9,7 +9,7 @@ use lib.Signed.{_≤ℤ_}
 use lib.ListN.{length}
 use Rattle.integers.specs.Within.{Within}
 use Rattle.graphs.specs.Graph.{Graph, rules, source, target, least, most}
-use Rattle.graphs.specs.Path.{Path, HasCycle, Reachable}
+use Rattle.graphs.specs.Path.{HasCycle, Reachable}
 
 -- "1 ≤ n ≤ 1,024", "0 ≤ r ≤ 4,096", and one entry for each rule in each of the four lists
 pub record CountsKept (g : Graph) : Type 0 where

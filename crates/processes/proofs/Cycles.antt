@@ -25,10 +25,9 @@ use lib.ListN.{take}
 use Rattle.graphs.specs.Graph as rule
 use Rattle.graphs.specs.Graph.{Graph, graphOf, rules}
 use Rattle.graphs.specs.Path.{Path, stay, step, steps, HasCycle}
-use Rattle.graphs.specs.Refusal.{pathChecks}
-use Rattle.graphs.proofs.Refusals.{path-places}
-use Rattle.verdicts.specs.Verdict.{check, given, Accepted}
-use Rattle.verdicts.proofs.Verdicts.{one-verdict, then-place, not-accepted, rest-of}
+use Rattle.graphs.proofs.Refusals.{cycle-exactly}
+use Rattle.verdicts.specs.Verdict.{check}
+use Rattle.verdicts.proofs.Verdicts.{rest-of}
 use Rattle.faults.specs.Faults.{EndsKnown}
 use Rattle.separation.specs.declared.Answer.{Answer}
 use Rattle.separation.specs.Promise as analysis
@@ -142,22 +141,14 @@ module _ {g : ProcessGraph} {K : ℕ} {graph : Graph} (unfolds : Unfolds g K gra
 
 -- ---- the analysis's verdict
 
--- a cycle is refused with 5, and a number other than 5 comes where there is none
-path-5 : {graph : Graph} {j p : ℕ} → analysis.PathVerdict graph j p → (j ≡ 5) ↔ HasCycle graph
-path-5 {graph} {j} {p} v = (cycle-of, λ c. one-verdict (pathChecks graph) (path-places graph) j p 5 0 v (given (record { zero-place = refl; holds = c })) .0)
-  where
-    cycle-of : j ≡ 5 → HasCycle graph
-    cycle-of e =
-        then-place (λ k q. k ≡ 5 → HasCycle graph) (pathChecks graph) Accepted j p (λ q a _. a .holds, (λ q a six. absurd (let no : ⊥ = omega arith in no), tt)) (λ a five. not-accepted (λ zero. let no : ⊥ = omega arith in no) a) v e
-
 module _ {g : ProcessGraph} {K : ℕ} {graph : Graph} (kept : Kept g K) (unfolds : Unfolds g K graph)
     {s t : ℕ} (hs : s < graph .events) (ht : t < graph .events) where
   path-5-exactly : {j p : ℕ} → analysis.PathVerdict graph j p → (j ≡ 5) ↔ MarkZeroCycle g
   path-5-exactly v =
       let known : (j : ℕ) → j < templates g → EndsKnown (g .events) (g .sources) (g .targets) j =
-      λ j l. record { source-known = kept .ends j l .source-known; target-known = kept .ends j l .target-known } in
+      λ j l. record { source-known = kept .each .ends j l .source-known; target-known = kept .each .ends j l .target-known } in
       let agree = cycles-agree unfolds known (kept .counts .some-copy) in
-      let by = path-5 v in
+      let by = cycle-exactly v in
       (λ e. agree .0 (by .0 e), λ c. by .1 (agree .1 c))
 
   pub refused-5-exactly : {Short : Type 0} {j p : ℕ} → (Short → ⊥) → analysis.Verdict graph s t Short j p → (j ≡ 5) ↔ MarkZeroCycle g

@@ -30,7 +30,7 @@ use Rattle.processes.specs.Unfolding.{processChecks, UnfoldingVerdict, U
 use Rattle.processes.proofs.Numbers.{place-found}
 use Rattle.processes.proofs.Exactly.{rule-at-place}
 use Rattle.processes.proofs.Occurrences.{occurrence-below}
-use Rattle.processes.proofs.Refusals.{Kept, process-none, process-kept}
+use Rattle.processes.proofs.Refusals.{TemplatesKept, Kept, process-none, process-kept}
 
 -- ---- a process graph that is kept
 
@@ -50,7 +50,7 @@ pub record InstanceSized (n : ℕ) (u v : Node) (d D : ℤ) : Type 0 where
   pub delays : InsideDelays d D
 
 -- a start rule has delay [0, 0] and comes from the root; the others have the template's delay
-pub instance-sized : {g : ProcessGraph} {K k j : ℕ} {u v : Node} {d D : ℤ} → Kept g K → k < K → j < templates g → Instance g k j u v d D → InstanceSized (1 + g .events * K) u v d D
+pub instance-sized : {g : ProcessGraph} {K k j : ℕ} {u v : Node} {d D : ℤ} → TemplatesKept g → k < K → j < templates g → Instance g k j u v d D → InstanceSized (1 + g .events * K) u v d D
 instance-sized {g} {K} {k} {j} kept below l (together m) =
     let e = kept .ends j l in
     let h = kept .delays j l in
@@ -85,7 +85,7 @@ module _ {g : ProcessGraph} {K : ℕ} {graph : Graph} (kept : Kept g K) (unfolds
   rule-sized i l =
       let p = place-found (templates g) K i (omega (arith, unfolds .sources-count)) in
       let r = rule-at-place unfolds i p in
-      let s = instance-sized kept (p .row-below) (p .within-below) (r .instance) in (
+      let s = instance-sized (kept .each) (p .row-below) (p .within-below) (r .instance) in (
         record {
           source-known = omega (arith, r .from-number, s .from-known, unfolds .event-count);
           target-known = omega (arith, r .to-number, s .to-known, unfolds .event-count);

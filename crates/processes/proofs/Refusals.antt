@@ -1,5 +1,6 @@
 -- Laws of the refusals of a process graph.
 --     plain g                                            the templates of g, read as the rules of an event graph
+--     TemplatesKept g                                    each template keeps its rules; no limit on counts is asked
 --     Kept g K                                           every rule of 01 for process graphs is kept
 --     process-places                                     each check of the list has one place
 --     counts-of, ends-of, delays-of, mark-of             what the absence of each refusal says; counts-inside is the first one's converse
@@ -19,6 +20,7 @@ use Rattle.verdicts.specs.Verdict.{AtZero, Lowest}
 use Rattle.verdicts.proofs.Verdicts.{OnePlaces, Misses, NoneApplies, lowest-unique, at-zero-unique, none-lowest, Alike, more-alike, alike-refl}
 use Rattle.graphs.specs.Graph.{Graph, graphOf}
 use Rattle.graphs.specs.Limits.{EndsKept, DelaysKept}
+use Rattle.graphs.proofs.Refusals.{short-at}
 use Rattle.graphs.proofs.Unique.{known-ends, ends-kept, inside-delays, delays-kept}
 use Rattle.processes.specs.Inner.Checks.{ProcessCountsKept, MarkKept}
 use Rattle.processes.specs.Process.{ProcessGraph, templates, mark}
@@ -41,12 +43,16 @@ use Rattle.processes.specs.Unfolding.{
 abbrev pub plain : ProcessGraph → Graph
 plain g = graphOf (g .events) (g .sources) (g .targets) (g .leasts) (g .mosts)
 
--- "p ≥ 1", "K ≥ 1", "1 + p × K ≤ 1,024 and templates × K ≤ 4,096", one entry for each template in each of the five lists
-pub record Kept (g : ProcessGraph) (K : ℕ) : Type 0 where
-  pub counts : ProcessCountsKept g K
+-- what is asked of each template, however many copies there are to be
+pub record TemplatesKept (g : ProcessGraph) : Type 0 where
   pub ends : (j : ℕ) → j < templates g → EndsKept (plain g) j
   pub delays : (j : ℕ) → j < templates g → DelaysKept 1000000 (plain g) j
   pub marks : (j : ℕ) → j < templates g → MarkKept (g .marks) j
+
+-- "p ≥ 1", "K ≥ 1", "1 + p × K ≤ 1,024 and templates × K ≤ 4,096", one entry for each template in each of the five lists
+pub record Kept (g : ProcessGraph) (K : ℕ) : Type 0 where
+  pub counts : ProcessCountsKept g K
+  pub each : TemplatesKept g
 
 -- ---- one place
 
@@ -116,24 +122,23 @@ module _ {g : ProcessGraph} where
 
 module _ {g : ProcessGraph} {K : ℕ} {Short : Type 0} where
   pub process-none : (Short → ⊥) → Kept g K → NoneApplies (processChecks g K Short)
-  process-none room kept = (counts-miss room (kept .counts), (ends-miss (kept .ends), (delays-miss (kept .delays), (marks-miss (kept .marks), tt))))
+  process-none room kept = (counts-miss room (kept .counts), (ends-miss (kept .each .ends), (delays-miss (kept .each .delays), (marks-miss (kept .each .marks), tt))))
 
   pub process-kept : NoneApplies (processChecks g K Short) → (Kept g K) × (Short → ⊥)
   process-kept none = (
     record {
       counts = counts-of (λ o. none .0 0 (record { zero-place = refl; holds = inl o }));
-      ends = λ j l. ends-of j l (none-lowest (none .1 .0) j);
-      delays = λ j l. delays-of j l (none-lowest (none .1 .1 .0) j);
-      marks = λ j l. mark-of j l (none-lowest (none .1 .1 .1 .0) j);
+      each =
+          record {
+            ends = λ j l. ends-of j l (none-lowest (none .1 .0) j);
+            delays = λ j l. delays-of j l (none-lowest (none .1 .1 .0) j);
+            marks = λ j l. mark-of j l (none-lowest (none .1 .1 .1 .0) j);
+          };
     },
     λ s. none .0 0 (record { zero-place = refl; holds = inr s }),
   )
 
 -- ---- "too short", said in two ways
-
-module _ {C A B : Type 0} (f : A → B) where
-  short-at : (p : ℕ) → AtZero (C ⊎ A) p → AtZero (C ⊎ B) p
-  short-at p a = record { zero-place = a .zero-place; holds = ⊎-elim inl (λ x. inr (f x)) (a .holds) }
 
 pub short-alike : {A B : Type 0} → (A → B) → (B → A) → {g : ProcessGraph} {K : ℕ} → Alike (processChecks g K A) (processChecks g K B)
 short-alike f h = more-alike (short-at f) (short-at h) (alike-refl _)

@@ -21,7 +21,7 @@ use Rattle.graphs.specs.Limits.{EndsKept, DelaysKept}
 use Rattle.faults.specs.Faults.{EndsKnown, EndUnknown, InsideDelays, DelaysInside, DelaysOutside}
 use Rattle.faults.proofs.Unique.{known-not-unknown, inside-not-outside}
 use Rattle.processes.specs.declared.Unfolded.{Unfolded}
-use Rattle.processes.specs.Process.{ProcessGraph, templates, source, target, least, most, mark}
+use Rattle.processes.specs.Process.{ProcessGraph, templates, least, most}
 use Rattle.processes.specs.Unfolding.{ProcessCountsOutside, ShortRuleLists, short-sources, short-targets, short-leasts, short-mosts, UnknownTemplateEvent, TemplateDelayOutside, MarkOutside, processChecks, UnfoldingVerdict, UnfoldingAnswered}
 use Rattle.processes.specs.Inner.Checks.{ProcessCountsKept, MarkKept, MarkBroken, ProcessKept, ProcessChecked}
 use Rattle.processes.proofs.Refusals.{plain, counts-miss, ends-miss, delays-miss, process-none, short-alike}
@@ -85,7 +85,7 @@ module _ {g : ProcessGraph} {K n : ℕ} where
         process-0 marked =
             none-accepted (processChecks g K (n < templates g * K))
             (process-none (λ l. omega arith)
-            (record { counts = counts; ends = known-kept g known; delays = inside-kept g inside; marks = marked }))
+            (record { counts = counts; each = record { ends = known-kept g known; delays = inside-kept g inside; marks = marked } }))
 
   -- ---- what check_process answers
 

@@ -9,9 +9,8 @@
 -- Assumes nothing.
 use mathlib.Core.Path.{_≡_, refl, sym, subst, _∙_}
 use mathlib.Core.List.{List}
-use Prim.Native.Nat.{ℕ, _+_, _-_, _*_, _<_, _≤_}
+use Prim.Native.Nat.{ℕ, _+_, _*_}
 use native.Mathlib.Decide.{ℕ-discrete}
-use native.Mathlib.Omega.{arith}
 use lib.IntN.{ℤ, pos, negℤ}
 use Rattle.sequences.proofs.Same.{same-places}
 use Rattle.graphs.specs.Graph.{Graph, rules}
@@ -23,7 +22,7 @@ use Rattle.executions.proofs.Nearness.{maxima-near}
 use Rattle.executions.proofs.Sizes.{exact-size}
 use Rattle.executions.proofs.Unique.{separation-unique, least-is-exchanged, latest-unique, greatest-delays-unique}
 use Rattle.separation.specs.declared.Answer.{Answer}
-use Rattle.separation.specs.Promise.{Verdict, Answered, Nothing, Written, at}
+use Rattle.separation.specs.Promise.{Verdict, Answered, Nothing, Written}
 use Rattle.separation.proofs.Verdicts.{verdict-unique}
 
 -- an answer is its five numbers

@@ -18,7 +18,6 @@ use lib.IntN.{ℤ, pos, _+ℤ_}
 use lib.ListN.{length, getD, set, length-set}
 use lib.Seq.{getD-set-same, getD-set-other}
 use Rattle.integers.specs.Within.{Within}
-use Rattle.integers.proofs.Integer.{linear}
 use Rattle.integers.proofs.Word.{within-sum, within-wider}
 use Rattle.graphs.specs.Graph.{Graph, rules, source, target, most, Greatest}
 use Rattle.graphs.specs.Limits.{EventGraph, CountsKept}
