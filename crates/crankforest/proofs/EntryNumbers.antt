@@ -1,11 +1,9 @@
 -- The number that the firmware's entry makes of a refusal.
---     refusal-small      the refusals of a text are small, so that their numbers are read back from their bits
+--     within-8           the refusals of a text are small (`number-small`, text/proofs/Answered.antt), so that their numbers are read back from their bits
 --     refused-fits       −4,000,000,000 minus such a number fits
 --     refused-number     and it is the entry's number
 -- Assumes nothing.
 use mathlib.Core.Path.{_≡_, refl}
-use mathlib.Core.Logic.{_⊎_, inl, inr}
-use mathlib.Core.List.{[], _∷_}
 use Prim.Native.Nat.{ℕ, zero, suc, _+_, _≤_}
 use native.Mathlib.Omega.{arith}
 use lib.Dec.{lit<}
@@ -16,16 +14,6 @@ use Rattle.integers.specs.Within.{Within}
 use Rattle.integers.proofs.Integer.{linear, difference, negation}
 use Rattle.integers.proofs.Word.{within-fits, read-back, within-difference}
 use Rattle.text.specs.Answers.{entryNumber}
-use Rattle.text.proofs.Answered.{OneOf}
-
-pub refusal-small : {k : ℕ} → OneOf (0 ∷ 1 ∷ 3 ∷ 4 ∷ 5 ∷ 6 ∷ 8 ∷ []) k → k ≤ 8
-refusal-small (inl e) = omega (arith, e)
-refusal-small (inr (inl e)) = omega (arith, e)
-refusal-small (inr (inr (inl e))) = omega (arith, e)
-refusal-small (inr (inr (inr (inl e)))) = omega (arith, e)
-refusal-small (inr (inr (inr (inr (inl e))))) = omega (arith, e)
-refusal-small (inr (inr (inr (inr (inr (inl e)))))) = omega (arith, e)
-refusal-small (inr (inr (inr (inr (inr (inr (inl e))))))) = omega (arith, e)
 
 pub within-8 : (k : ℕ) → k ≤ 8 → Within 8 (pos k)
 within-8 k l = record { above = omega (linear, l, negation (pos 8)); below = omega (linear, l) }

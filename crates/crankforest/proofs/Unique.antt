@@ -16,9 +16,9 @@ use Rattle.separation.specs.declared.Answer.{Answer}
 use Rattle.separation.proofs.Promises.{answer-unique, schedule-unique}
 use Rattle.separation.proofs.CoarsePromises.{coarse-answer-unique}
 use Rattle.processes.specs.Process.{ProcessGraph}
-use Rattle.processes.specs.Unfolding as process
+use Rattle.processes.specs.Unfolding.{UnfoldingAnswered, UnfoldingWritten}
 use Rattle.processes.specs.declared.Unfolded.{Unfolded}
-use Rattle.processes.proofs.Unique.{Same, unfold-unique}
+use Rattle.processes.proofs.Unique.{SameRuleLists, unfold-unique}
 use Rattle.text.specs.Output.{PairsWritten}
 use Rattle.text.specs.declared.PairsAnswer.{PairsAnswer}
 use Rattle.text.proofs.Answered.{pairs-unique}
@@ -87,9 +87,9 @@ pub schedule-entry-unique : {g : Graph} {s t k p d e k′ p′ d′ e′ : ℕ} 
 schedule-entry-unique a w b v = let same = schedule-unique a w b v in (same-answer (same .0), same .1, same .2)
 
 pub unfold-entry-unique : {g : ProcessGraph} {K k p n r k′ p′ n′ r′ : ℕ} {Short : Type 0} {ss₀ ts₀ : List ℕ} {ds₀ Ds₀ : List ℤ} {ss ss′ ts ts′ : List ℕ} {ds ds′ Ds Ds′ : List ℤ}
-    → process.Answered g K Short (unfoldedOf k p n r) → process.Written g K (unfoldedOf k p n r) ss₀ ts₀ ds₀ Ds₀ ss ts ds Ds
-    → process.Answered g K Short (unfoldedOf k′ p′ n′ r′) → process.Written g K (unfoldedOf k′ p′ n′ r′) ss₀ ts₀ ds₀ Ds₀ ss′ ts′ ds′ Ds′
-    → SameUnfolded k p n r k′ p′ n′ r′ × Same ss ss′ ts ts′ ds ds′ Ds Ds′
+    → UnfoldingAnswered g K Short (unfoldedOf k p n r) → UnfoldingWritten g K (unfoldedOf k p n r) ss₀ ts₀ ds₀ Ds₀ ss ts ds Ds
+    → UnfoldingAnswered g K Short (unfoldedOf k′ p′ n′ r′) → UnfoldingWritten g K (unfoldedOf k′ p′ n′ r′) ss₀ ts₀ ds₀ Ds₀ ss′ ts′ ds′ Ds′
+    → SameUnfolded k p n r k′ p′ n′ r′ × SameRuleLists ss ss′ ts ts′ ds ds′ Ds Ds′
 unfold-entry-unique a w b v = let same = unfold-unique a w b v in (same-unfolded (same .0), same .1)
 
 pub pairs-entry-unique : {bs : List ℕ} {k p b k′ p′ b′ : ℕ} {out₀ out out′ : List ℕ}

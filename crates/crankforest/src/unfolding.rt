@@ -1,6 +1,6 @@
 // The entry of the unfolding.
 ghost use Rattle.processes.specs.Process.{processOf};
-ghost use Rattle.processes.specs.Unfolding.{Answered, ShortLists, Written};
+ghost use Rattle.processes.specs.Unfolding.{UnfoldingAnswered, ShortRuleLists, UnfoldingWritten};
 ghost use Rattle.crankforest.specs.Entries.{unfoldedOf};
 
 // The event graph of a process graph, unfolded `copies` times, in the four lent lists.
@@ -21,8 +21,8 @@ pub extern "C" fn crankforest_unfold(
     events: &mut usize,
     rules: &mut usize,
 ) -> usize
-    ensures { λ r. ⌜ Answered (processOf p (now (sources .entry)) (now (targets .entry)) (now (leasts .entry)) (now (mosts .entry)) (now (marks .entry))) copies (ShortLists (processOf p (now (sources .entry)) (now (targets .entry)) (now (leasts .entry)) (now (mosts .entry)) (now (marks .entry))) copies (now («out_sources» .entry)) (now («out_targets» .entry)) (now («out_leasts» .entry)) (now («out_mosts» .entry))) (unfoldedOf r (now (place .exit)) (now (events .exit)) (now (rules .exit))) ⌝ }
-    ensures { λ r. ⌜ Written (processOf p (now (sources .entry)) (now (targets .entry)) (now (leasts .entry)) (now (mosts .entry)) (now (marks .entry))) copies (unfoldedOf r (now (place .exit)) (now (events .exit)) (now (rules .exit))) (now («out_sources» .entry)) (now («out_targets» .entry)) (now («out_leasts» .entry)) (now («out_mosts» .entry)) (now («out_sources» .exit)) (now («out_targets» .exit)) (now («out_leasts» .exit)) (now («out_mosts» .exit)) ⌝ }
+    ensures { λ r. ⌜ UnfoldingAnswered (processOf p (now (sources .entry)) (now (targets .entry)) (now (leasts .entry)) (now (mosts .entry)) (now (marks .entry))) copies (ShortRuleLists (processOf p (now (sources .entry)) (now (targets .entry)) (now (leasts .entry)) (now (mosts .entry)) (now (marks .entry))) copies (now («out_sources» .entry)) (now («out_targets» .entry)) (now («out_leasts» .entry)) (now («out_mosts» .entry))) (unfoldedOf r (now (place .exit)) (now (events .exit)) (now (rules .exit))) ⌝ }
+    ensures { λ r. ⌜ UnfoldingWritten (processOf p (now (sources .entry)) (now (targets .entry)) (now (leasts .entry)) (now (mosts .entry)) (now (marks .entry))) copies (unfoldedOf r (now (place .exit)) (now (events .exit)) (now (rules .exit))) (now («out_sources» .entry)) (now («out_targets» .entry)) (now («out_leasts» .entry)) (now («out_mosts» .entry)) (now («out_sources» .exit)) (now («out_targets» .exit)) (now («out_leasts» .exit)) (now («out_mosts» .exit)) ⌝ }
 {
     let unfolded = processes::unfold(
         p,

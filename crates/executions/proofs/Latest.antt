@@ -21,10 +21,10 @@ use Rattle.integers.proofs.Integer.{P, N, linear, sum, difference, negation}
 use Rattle.graphs.specs.Graph.{Graph, rules, source, target, least, most, Greatest}
 use Rattle.graphs.specs.Path.{Path, leastSum}
 use Rattle.graphs.specs.Path.Path.{stay, step}
-use Rattle.graphs.specs.Limits.{EventGraph}
+use Rattle.graphs.specs.Limits.{SoundGraph}
 use Rattle.graphs.proofs.Rank.{rank-of}
 use Rattle.executions.specs.Execution.{Execution}
-use Rattle.executions.specs.Steps.{M, Lesser, Capped, UOf, U}
+use Rattle.executions.specs.Steps.{M, Capped, UOf, U}
 use Rattle.executions.specs.Steps.Capped.{with-m, without-m}
 use Rattle.executions.proofs.Rules.{KeepsLeast, Reaches, keeps-least, target-is-other, path-bound}
 
@@ -44,7 +44,7 @@ capped-right : {g : Graph} {s v : ℕ} {a y : ℤ} → Capped g s v a y → y �
 capped-right (with-m x m l) = l .right
 capped-right (without-m none e) = omega linear
 
-module _ {b : ℕ} {g : Graph} (eg : EventGraph b g) {s : ℕ} {u : ℕ → ℤ} (steps : U g s u) where
+module _ {g : Graph} (sound : SoundGraph g) {s : ℕ} {u : ℕ → ℤ} (steps : U g s u) where
   module _ {delay time : ℕ → ℤ} (x : Execution g delay time) where
     -- t(v) is at most the greatest arrival after t(s), if that holds at the source of the rule by which v happens
     below-arrival : (v : ℕ) (o : UOf g s u v) → ((i : ℕ) → i < rules g → target g i ≡ v → (time (source g i) -ℤ time s) ≤ℤ u (source g i)) → Greatest g v (λ i. time (source g i) +ℤ delay i) (time v) → (time v -ℤ time s) ≤ℤ (o .arrival)
@@ -64,20 +64,20 @@ module _ {b : ℕ} {g : Graph} (eg : EventGraph b g) {s : ℕ} {u : ℕ → ℤ}
         )
 
     below-at : (v : ℕ) → v < g .events → ((i : ℕ) → i < rules g → target g i ≡ v → (time (source g i) -ℤ time s) ≤ℤ u (source g i)) → Dec (v ≡ 0) → (time v -ℤ time s) ≤ℤ u v
-    below-at v h before (yes e) = subst (λ (w : ℕ). (time w -ℤ time s) ≤ℤ u w) (sym e) (below-m (keeps-least eg x) (steps .root))
+    below-at v h before (yes e) = subst (λ (w : ℕ). (time w -ℤ time s) ≤ℤ u w) (sym e) (below-m (keeps-least sound x) (steps .root))
     below-at v h before (no n) =
-        below-capped (keeps-least eg x) (steps .others v h n .capped) (below-arrival v (steps .others v h n) before (x .others v h n))
+        below-capped (keeps-least sound x) (steps .others v h n .capped) (below-arrival v (steps .others v h n) before (x .others v h n))
 
     module _ (rank : ℕ → ℕ) (first : (i : ℕ) → i < rules g → rank (source g i) < rank (target g i)) where
       below-within : (k v : ℕ) → rank v < k → v < g .events → (time v -ℤ time s) ≤ℤ u v
       below-within zero v r h = absurd (not-suc-le-zero r)
       below-within (suc k) v r h =
-          below-at v h (λ i l e. below-within k (source g i) (omega (arith, first i l, ap rank e)) (eg .sized .ends i l .source-known)) (ℕ-discrete v 0)
+          below-at v h (λ i l e. below-within k (source g i) (omega (arith, first i l, ap rank e)) (sound .ends i l .source-known)) (ℕ-discrete v 0)
 
     -- no choice of delays exceeds u
     pub below-u : (v : ℕ) → v < g .events → (time v -ℤ time s) ≤ℤ u v
     below-u v h =
-        let r = rank-of g (eg .sized .ends) (eg .acyclic) in
+        let r = rank-of g (sound .ends) (sound .acyclic) in
         below-within (r .0) (r .1) (suc (r .0 v)) v (le-refl (suc (r .0 v))) h
 
   -- ---- u is reached
@@ -104,14 +104,14 @@ module _ {b : ℕ} {g : Graph} (eg : EventGraph b g) {s : ℕ} {u : ℕ → ℤ}
       at i h = go (o .capped)
         where
           o : UOf g s u (target g i)
-          o = steps .others (target g i) (eg .sized .ends i h .target-known) (target-is-other eg i h)
+          o = steps .others (target g i) (sound .ends i h .target-known) (target-is-other sound i h)
 
           arrives : (u (source g i) +ℤ least g i) ≤ℤ (o .arrival)
           arrives =
               omega (
                 linear,
                 o .arrival-greatest .bound i h refl,
-                eg .sized .delays i h .ordered,
+                sound .ordered i h,
                 sum (u (source g i)) (least g i),
                 sum (u (source g i)) (most g i),
               )
@@ -119,7 +119,7 @@ module _ {b : ℕ} {g : Graph} (eg : EventGraph b g) {s : ℕ} {u : ℕ → ℤ}
           go : {y : ℤ} → Capped g s (target g i) (o .arrival) y → (u (source g i) +ℤ least g i) ≤ℤ y
           go {y} (with-m x m l) =
               let p : Path g (target g i) s = m .reached .0 in
-              let first-part : u (source g i) ≤ℤ negℤ (least g i +ℤ leastSum p) = u-below-path (eg .sized .ends i h .source-known) (step i h refl refl p) in
+              let first-part : u (source g i) ≤ℤ negℤ (least g i +ℤ leastSum p) = u-below-path (sound .ends i h .source-known) (step i h refl refl p) in
               let under : (u (source g i) +ℤ least g i) ≤ℤ x =
               omega (
                 linear,

@@ -16,7 +16,7 @@ use Rattle.integers.proofs.Integer.{P, N, linear, sum, difference, negation, mi
 use Rattle.graphs.specs.Graph.{Graph, rules, source, target, least, most, Greatest}
 use Rattle.graphs.specs.Path.{Path, Depth, steps}
 use Rattle.graphs.specs.Path.Path.{stay, step}
-use Rattle.graphs.specs.Limits.{EventGraph}
+use Rattle.graphs.specs.Limits.{SoundGraph}
 use Rattle.graphs.proofs.Paths.{along, steps-along}
 use Rattle.graphs.proofs.Rank.{rank-of}
 use Rattle.executions.specs.Execution.{Execution}
@@ -57,7 +57,7 @@ clamped e d D x ordered high low = outer (leZ D x) refl (leZ d (minℤ D x)) ref
 
 -- ---- times that follow from nearby delays
 
-module _ {b : ℕ} {c : Graph} (ec : EventGraph b c) (e : ℕ) {delay time delay′ time′ : ℕ → ℤ} (f : Follows c delay time) (f′ : Follows c delay′ time′) (near : (i : ℕ) → i < rules c → delay i ≤ℤ (delay′ i +ℤ pos e)) (rank : ℕ → ℕ) (first : (i : ℕ) → i < rules c → rank (source c i) < rank (target c i)) where
+module _ {c : Graph} (ec : SoundGraph c) (e : ℕ) {delay time delay′ time′ : ℕ → ℤ} (f : Follows c delay time) (f′ : Follows c delay′ time′) (near : (i : ℕ) → i < rules c → delay i ≤ℤ (delay′ i +ℤ pos e)) (rank : ℕ → ℕ) (first : (i : ℕ) → i < rules c → rank (source c i) < rank (target c i)) where
   -- what is claimed of one event, for every bound k on the rules of a path to it
   NotLater : ℕ → Type 0
   NotLater v = (k : ℕ) → ((p : Path c 0 v) → steps p ≤ k) → time v ≤ℤ (time′ v +ℤ pos (e * k))
@@ -65,14 +65,14 @@ module _ {b : ℕ} {c : Graph} (ec : EventGraph b c) (e : ℕ) {delay time delay
   by-rule : (i : ℕ) → i < rules c → time (source c i) +ℤ delay i ≡ time (target c i) → NotLater (source c i) → NotLater (target c i)
   unfolding NotLater
   by-rule i l at before zero bound =
-      let p : Path c 0 (source c i) = ec .reachable (source c i) (ec .sized .ends i l .source-known) in
+      let p : Path c 0 (source c i) = ec .reachable (source c i) (ec .ends i l .source-known) in
       absurd (let no : ⊥ = omega (arith, bound (along p i l refl refl), steps-along p i l refl refl) in no)
   by-rule i l at before (suc k) bound =
       let earlier : time (source c i) ≤ℤ (time′ (source c i) +ℤ pos (e * k)) =
       before k (λ p. let one : suc (steps p) ≤ suc k = omega (arith, bound (along p i l refl refl), steps-along p i l refl refl) in omega arith)
       in
       let after : (time′ (source c i) +ℤ delay′ i) ≤ℤ time′ (target c i) =
-      f′ .others (target c i) (ec .sized .ends i l .target-known) (target-is-other ec i l) .bound i l refl
+      f′ .others (target c i) (ec .ends i l .target-known) (target-is-other ec i l) .bound i l refl
       in
       omega (
         linear,
@@ -101,7 +101,7 @@ module _ {b : ℕ} {c : Graph} (ec : EventGraph b c) (e : ℕ) {delay time delay
   not-later-within : (j v : ℕ) → rank v < j → v < c .events → NotLater v
   not-later-within zero v r h = absurd (not-suc-le-zero r)
   not-later-within (suc j) v r h =
-      not-later-at v h (λ i l z. not-later-within j (source c i) (omega (arith, first i l, ap rank z)) (ec .sized .ends i l .source-known)) (ℕ-discrete v 0)
+      not-later-at v h (λ i l z. not-later-within j (source c i) (omega (arith, first i l, ap rank z)) (ec .ends i l .source-known)) (ℕ-discrete v 0)
 
   not-later : (v : ℕ) → v < c .events → (k : ℕ) → ((p : Path c 0 v) → steps p ≤ k) → time v ≤ℤ (time′ v +ℤ pos (e * k))
   unfolding NotLater
@@ -109,7 +109,7 @@ module _ {b : ℕ} {c : Graph} (ec : EventGraph b c) (e : ℕ) {delay time delay
 
 -- ---- an execution of g, moved to h
 
-module _ {b b′ : ℕ} {c g h : Graph} (ec : EventGraph b c) (eh : EventGraph b′ h) (cg : SameRules c g) (ch : SameRules c h) (e : ℕ) (near : DelaysNear e g h) where
+module _ {c g h : Graph} (ec : SoundGraph c) (eh : SoundGraph h) (cg : SameRules c g) (ch : SameRules c h) (e : ℕ) (near : DelaysNear e g h) where
   -- rule i of h takes the delay nearest to the one that it took in g
   moved : (ℕ → ℤ) → ℕ → ℤ
   moved delay i = clamp (least h i) (most h i) (delay i)
@@ -118,7 +118,7 @@ module _ {b b′ : ℕ} {c g h : Graph} (ec : EventGraph b c) (eh : EventGraph b
   unfolding moved
   moved-clamped {delay} x i l =
       let k : i < rules g = omega (arith, rules-same cg, rules-same ch) in
-      clamped e (least h i) (most h i) (delay i) (eh .sized .delays i l .ordered)
+      clamped e (least h i) (most h i) (delay i) (eh .ordered i l)
       (omega (linear, x .to-most i k, near .mosts-near i k .not-above))
       (omega (linear, x .from-least i k, near .leasts-near i k .not-below, sum (least g i) (pos e), sum (delay i) (pos e)))
 
@@ -127,7 +127,7 @@ module _ {b b′ : ℕ} {c g h : Graph} (ec : EventGraph b c) (eh : EventGraph b
   moved-near {s} {t} {a} {d} {y} {delay} {time} hs ht da dd x bound =
       let z = times-follow eh (moved delay) in
       let time′ : ℕ → ℤ = z .0 in
-      let r = rank-of c (ec .sized .ends) (ec .acyclic) in
+      let r = rank-of c (ec .ends) (ec .acyclic) in
       let x′ : Execution h (moved delay) time′ =
       record {
         from-least = λ i l. moved-clamped x i l .from-least;
@@ -170,14 +170,14 @@ near-exchanged {e} {g} {h} same n =
 
 -- "Two accepted graphs with the same events and rules, no least and no most delay differing by more than e: for one source and target their exact maxima
 -- differ by at most e × (depth of source + depth of target)." The depths are those of either graph, since paths are the same
-pub maxima-near : {b b′ : ℕ} {g h : Graph} → EventGraph b g → EventGraph b′ h → SameRules g h → (e : ℕ) → DelaysNear e g h → {s t a d : ℕ} {x y : ℤ} → s < g .events → t < g .events → Depth g s a → Depth g t d → Separation g s t x → Separation h s t y → Near (e * (a + d)) x y
-maxima-near {g = g} {h = h} eg eh same e near {s} {t} {a} {d} {x} {y} hs ht da dd sx sy =
+pub maxima-near : {g h : Graph} → SoundGraph g → SoundGraph h → SameRules g h → (e : ℕ) → DelaysNear e g h → {s t a d : ℕ} {x y : ℤ} → s < g .events → t < g .events → Depth g s a → Depth g t d → Separation g s t x → Separation h s t y → Near (e * (a + d)) x y
+maxima-near {g = g} {h = h} sound eh same e near {s} {t} {a} {d} {x} {y} hs ht da dd sx sy =
     let rx = sx .reached in
     let ry = sy .reached in
     let m = e * (a + d) in
     record {
       not-above =
-          omega (linear, rx .3, moved-near eg eh (same-refl g) same e near hs ht da dd (rx .2) (sy .bound));
+          omega (linear, rx .3, moved-near sound eh (same-refl g) same e near hs ht da dd (rx .2) (sy .bound));
       not-below =
-          omega (linear, ry .3, moved-near eg eg same (same-refl g) e (near-exchanged same near) hs ht da dd (ry .2) (sx .bound));
+          omega (linear, ry .3, moved-near sound sound same (same-refl g) e (near-exchanged same near) hs ht da dd (ry .2) (sx .bound));
     }

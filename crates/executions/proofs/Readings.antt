@@ -6,21 +6,20 @@
 --     readings-agree       both at once
 -- The idea. Given times by bounds, let each rule take the greatest delay in its interval that doesn't carry its source past its target's time.
 -- No event is then late; and the rule that bounds an event from above takes exactly the difference of the two times. Assumes nothing.
-use mathlib.Core.Path.{_≡_, refl, ap, sym, subst}
+use mathlib.Core.Path.{_≡_, refl, ap, subst}
 use mathlib.Core.Logic.{_⊎_, inl, inr, ⊎-elim, _↔_}
 use mathlib.Core.Bool.{Bool, true, false, cond}
-use Prim.Native.Nat.{ℕ, zero, suc, _<_}
-use native.Mathlib.Decide.{ℕ-discrete}
-use lib.IntN.{ℤ, pos, negℤ, _+ℤ_, _-ℤ_}
+use Prim.Native.Nat.{ℕ, _<_}
+use lib.IntN.{ℤ, pos, _+ℤ_, _-ℤ_}
 use lib.Signed.{_≤ℤ_, leZ}
 use Rattle.integers.proofs.Integer.{P, N, linear, sum, difference, minℤ}
 use Rattle.graphs.specs.Graph.{Graph, rules, source, target, least, most, Greatest}
-use Rattle.graphs.specs.Limits.{EventGraph}
+use Rattle.graphs.specs.Limits.{SoundGraph}
 use Rattle.graphs.proofs.Greatest.{greatest-exists}
 use Rattle.executions.specs.Execution.{Execution, Between, Bounded}
 use Rattle.executions.specs.Steps.{Lesser}
 use Rattle.executions.specs.Schedule.{GreatestDelay}
-use Rattle.executions.proofs.Rules.{KeepsLeast, Reaches, keeps-least, target-is-other}
+use Rattle.executions.proofs.Rules.{KeepsLeast, Reaches, target-is-other}
 
 pub lesser-min : (a b : ℤ) → Lesser a b (minℤ a b)
 lesser-min a b = go (leZ a b) refl
@@ -42,7 +41,7 @@ greatest-delay {g} {time} {i} {x} keeps ordered l =
     above y low high late (inl e) = omega (linear, difference (time (target g i)) (time (source g i)), sum (time (source g i)) y)
     above y low high late (inr e) = omega linear
 
-module _ {b : ℕ} {g : Graph} (eg : EventGraph b g) where
+module _ {g : Graph} (sound : SoundGraph g) where
   pub executes : {delay time : ℕ → ℤ} → time 0 ≡ pos 0 → KeepsLeast g time → ((v : ℕ) → v < g .events → (v ≡ 0 → ⊥) → Reaches g time v) → ((i : ℕ) → i < rules g → GreatestDelay g time i (delay i)) → Execution g delay time
   executes {delay} {time} root keeps reaches delays =
       record {
@@ -73,7 +72,7 @@ module _ {b : ℕ} {g : Graph} (eg : EventGraph b g) where
   bounds-keep {time} x =
       record {
         keeps = λ i h.
-            let o : Between g time (target g i) = x .others (target g i) (eg .sized .ends i h .target-known) (target-is-other eg i h) in
+            let o : Between g time (target g i) = x .others (target g i) (sound .ends i h .target-known) (target-is-other sound i h) in
             omega (linear, o .earliest-greatest .bound i h refl, o .after);
       }
 
@@ -87,7 +86,7 @@ module _ {b : ℕ} {g : Graph} (eg : EventGraph b g) where
     λ i. minℤ (time (target g i) -ℤ time (source g i)) (most g i),
     executes (x .root) (bounds-keep x) (λ v h n. bounds-reach v (x .others v h n))
         (λ i h.
-        greatest-delay (bounds-keep x .keeps i h) (eg .sized .delays i h .ordered)
+        greatest-delay (bounds-keep x .keeps i h) (sound .ordered i h)
         (lesser-min (time (target g i) -ℤ time (source g i)) (most g i))),
   )
 

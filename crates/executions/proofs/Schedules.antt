@@ -3,13 +3,13 @@
 --     schedule-of          times that are `Latest` and the greatest delays are the schedule, with all that demand 2 says of it
 --     separation-of        "The answer is U(t)": U(v) is the greatest separation of v from s
 -- What is to be shown stands in Latest.antt and Readings.antt; here it is put together. Assumes nothing.
-use mathlib.Core.Path.{_≡_, refl, ap, sym, subst}
-use Prim.Native.Nat.{ℕ, zero, suc, _<_}
+use mathlib.Core.Path.{_≡_, refl, sym, subst}
+use Prim.Native.Nat.{ℕ, _<_}
 use lib.IntN.{ℤ, pos, _+ℤ_, _-ℤ_}
 use lib.Signed.{_≤ℤ_}
 use Rattle.integers.proofs.Integer.{P, N, linear, sum, difference, minℤ}
 use Rattle.graphs.specs.Graph.{Graph, rules, source, target, least, most}
-use Rattle.graphs.specs.Limits.{EventGraph}
+use Rattle.graphs.specs.Limits.{SoundGraph}
 use Rattle.executions.specs.Execution.{Execution}
 use Rattle.executions.specs.Separation.{Separation}
 use Rattle.executions.specs.Steps.{Lesser, U}
@@ -18,7 +18,7 @@ use Rattle.executions.proofs.Rules.{KeepsLeast, Reaches}
 use Rattle.executions.proofs.Latest.{below-u, u-keeps-least, u-reaches, u-at-s}
 use Rattle.executions.proofs.Readings.{lesser-min, greatest-delay, executes}
 
-module _ {b : ℕ} {g : Graph} (eg : EventGraph b g) {s : ℕ} where
+module _ {g : Graph} (sound : SoundGraph g) {s : ℕ} where
   module _ {time : ℕ → ℤ} (latest : Latest g s time) where
     keeps : KeepsLeast g time
     keeps = record { keeps = at }
@@ -30,9 +30,9 @@ module _ {b : ℕ} {g : Graph} (eg : EventGraph b g) {s : ℕ} where
             let T : ℕ = target g i in
             omega (
               linear,
-              u-keeps-least eg (latest .steps) .keeps i h,
-              latest .times S (eg .sized .ends i h .source-known),
-              latest .times T (eg .sized .ends i h .target-known),
+              u-keeps-least sound (latest .steps) .keeps i h,
+              latest .times S (sound .ends i h .source-known),
+              latest .times T (sound .ends i h .target-known),
               sum (u S) (least g i),
               sum (time S) (least g i),
               difference (u S) (u 0),
@@ -42,7 +42,7 @@ module _ {b : ℕ} {g : Graph} (eg : EventGraph b g) {s : ℕ} where
     reaches : (v : ℕ) → v < g .events → (v ≡ 0 → ⊥) → Reaches g time v
     reaches v h n =
         let u : ℕ → ℤ = latest .u in
-        let r : Reaches g u v = u-reaches eg (latest .steps) v h n in
+        let r : Reaches g u v = u-reaches sound (latest .steps) v h n in
         let S : ℕ = source g (r .rule) in
         record {
           rule = r .rule;
@@ -53,7 +53,7 @@ module _ {b : ℕ} {g : Graph} (eg : EventGraph b g) {s : ℕ} where
                 linear,
                 r .late,
                 latest .times v h,
-                latest .times S (eg .sized .ends (r .rule) (r .is-rule) .source-known),
+                latest .times S (sound .ends (r .rule) (r .is-rule) .source-known),
                 sum (u S) (most g (r .rule)),
                 sum (time S) (most g (r .rule)),
                 difference (u v) (u 0),
@@ -62,12 +62,12 @@ module _ {b : ℕ} {g : Graph} (eg : EventGraph b g) {s : ℕ} where
         }
 
     pub greatest-delay-of : {i : ℕ} {x : ℤ} → i < rules g → Lesser (time (target g i) -ℤ time (source g i)) (most g i) x → GreatestDelay g time i x
-    greatest-delay-of {i} h lesser = greatest-delay (keeps .keeps i h) (eg .sized .delays i h .ordered) lesser
+    greatest-delay-of {i} h lesser = greatest-delay (keeps .keeps i h) (sound .ordered i h) lesser
 
     module _ (is-event : s < g .events) {delay : ℕ → ℤ} (delays : (i : ℕ) → i < rules g → GreatestDelay g time i (delay i)) where
       execution : Execution g delay time
       execution =
-          executes eg (omega (linear, latest .times 0 (eg .sized .counts .some-event), difference (latest .u 0) (latest .u 0))) keeps reaches delays
+          executes sound (omega (linear, latest .times 0 (sound .some-event), difference (latest .u 0) (latest .u 0))) keeps reaches delays
 
       against-s : (v : ℕ) → v < g .events → time v -ℤ time s ≡ latest .u v
       against-s v h =
@@ -76,7 +76,7 @@ module _ {b : ℕ} {g : Graph} (eg : EventGraph b g) {s : ℕ} where
             linear,
             latest .times v h,
             latest .times s is-event,
-            u-at-s eg (latest .steps) is-event,
+            u-at-s sound (latest .steps) is-event,
             difference (u v) (u 0),
             difference (u s) (u 0),
             difference (time v) (time s),
@@ -86,7 +86,7 @@ module _ {b : ℕ} {g : Graph} (eg : EventGraph b g) {s : ℕ} where
       reached-and-bound v h =
           record {
             reached = (delay, time, execution, against-s v h);
-            bound = λ delay′ time′ x. below-u eg (latest .steps) x v h;
+            bound = λ delay′ time′ x. below-u sound (latest .steps) x v h;
           }
 
       pub schedule-of : Schedule g s delay time

@@ -1,38 +1,29 @@
 -- Every choice of delays is an execution's: times follow from the delays taken, event by event, in an order where sources come first.
---     times-follow      for an event graph and any delay for each rule there are times with the root at 0 and every other event at the greatest arrival
+--     times-follow      for a sound graph and any delay for each rule there are times with the root at 0 and every other event at the greatest arrival
 -- The idea. `timeAt k v` is the time of v as k rounds find it: in a round each event other than the root takes the greatest arrival by the times of the round
 -- before. By `rank-of` an event's rank is below the number of events and above those of its sources, so after `rank v` rounds the time of v no longer
 -- changes (`settled`), and one round more says that it is the greatest arrival. Assumes nothing.
-use mathlib.Core.Path.{_≡_, refl, ap, sym, subst, _∙_}
-use Prim.Native.Nat.{ℕ, zero, suc, _<_, _≤_}
+use mathlib.Core.Path.{_≡_, refl, ap, sym, _∙_}
+use Prim.Native.Nat.{ℕ, zero, suc, _<_}
 use native.Mathlib.Decide.{ℕ-discrete, decLt}
 use native.Mathlib.Nat.{not-suc-le-zero}
 use native.Mathlib.Omega.{arith}
 use lib.IntN.{ℤ, pos, _+ℤ_}
-use lib.Signed.{_≤ℤ_}
 use Rattle.graphs.specs.Graph.{Graph, rules, source, target, Greatest}
-use Rattle.graphs.specs.Limits.{EventGraph}
+use Rattle.graphs.specs.Limits.{SoundGraph}
 use Rattle.graphs.proofs.Rank.{rank-of}
-use Rattle.graphs.proofs.Greatest.{greatest-exists, greatest-unique, incoming}
-
--- the greatest stays where the values do
-greatest-same : {g : Graph} {v : ℕ} {f h : ℕ → ℤ} {x : ℤ} → Greatest g v f x → ((i : ℕ) → i < rules g → target g i ≡ v → f i ≡ h i) → Greatest g v h x
-greatest-same {g} {v} {f} {h} {x} m same =
-    record {
-      reached = (m .reached .0, m .reached .1, m .reached .2, sym (same (m .reached .0) (m .reached .1) (m .reached .2)) ∙ m .reached .3);
-      bound = λ i l e. subst (λ (y : ℤ). y ≤ℤ x) (same i l e) (m .bound i l e);
-    }
+use Rattle.graphs.proofs.Greatest.{greatest-exists, greatest-unique, greatest-same, incoming}
 
 -- times that follow from the delays taken
 pub record Follows (g : Graph) (delay time : ℕ → ℤ) : Type 0 where
   pub root : time 0 ≡ pos 0
   pub others : (v : ℕ) → v < g .events → (v ≡ 0 → ⊥) → Greatest g v (λ i. time (source g i) +ℤ delay i) (time v)
 
-module _ {b : ℕ} {g : Graph} (eg : EventGraph b g) where
+module _ {g : Graph} (sound : SoundGraph g) where
   -- the greatest f over the rules into v, and 0 at the root and past the events
   atEvent : (v : ℕ) (f : ℕ → ℤ) → Dec (v < g .events) → Dec (v ≡ 0) → ℤ
   atEvent v f (yes h) (yes e) = pos 0
-  atEvent v f (yes h) (no n) = greatest-exists g v f (incoming eg h n .0) (incoming eg h n .1) (incoming eg h n .2) .0
+  atEvent v f (yes h) (no n) = greatest-exists g v f (incoming sound h n .0) (incoming sound h n .1) (incoming sound h n .2) .0
   atEvent v f (no h) d = pos 0
 
   atEvent-root : (v : ℕ) (f : ℕ → ℤ) (p : Dec (v < g .events)) (q : Dec (v ≡ 0)) → v ≡ 0 → atEvent v f p q ≡ pos 0
@@ -44,7 +35,7 @@ module _ {b : ℕ} {g : Graph} (eg : EventGraph b g) where
   atEvent-greatest : (v : ℕ) (f : ℕ → ℤ) (p : Dec (v < g .events)) (q : Dec (v ≡ 0)) → v < g .events → (v ≡ 0 → ⊥) → Greatest g v f (atEvent v f p q)
   unfolding atEvent
   atEvent-greatest v f (yes h) (yes e) l o = absurd (o e)
-  atEvent-greatest v f (yes h) (no n) l o = greatest-exists g v f (incoming eg h n .0) (incoming eg h n .1) (incoming eg h n .2) .1
+  atEvent-greatest v f (yes h) (no n) l o = greatest-exists g v f (incoming sound h n .0) (incoming sound h n .1) (incoming sound h n .2) .1
   atEvent-greatest v f (no h) d l o = absurd (h l)
 
   module _ (delay : ℕ → ℤ) where
@@ -70,7 +61,7 @@ module _ {b : ℕ} {g : Graph} (eg : EventGraph b g) where
       settled : (k v : ℕ) → rank v < k → v < g .events → timeAt k v ≡ timeAt (suc k) v
       settled zero v r h = absurd (not-suc-le-zero r)
       settled (suc k) v r h =
-          settled-at k v h (λ i l e. settled k (source g i) (omega (arith, first i l, ap rank e)) (eg .sized .ends i l .source-known)) (ℕ-discrete v 0)
+          settled-at k v h (λ i l e. settled k (source g i) (omega (arith, first i l, ap rank e)) (sound .ends i l .source-known)) (ℕ-discrete v 0)
 
       settled-follow : ((v : ℕ) → v < g .events → rank v < g .events) → Follows g delay (timeAt (suc (g .events)))
       settled-follow below =
@@ -83,9 +74,9 @@ module _ {b : ℕ} {g : Graph} (eg : EventGraph b g) where
           again v x =
               greatest-same x
               (λ i l e. ap (λ (y : ℤ). y +ℤ delay i)
-              (settled (g .events) (source g i) (below (source g i) (eg .sized .ends i l .source-known)) (eg .sized .ends i l .source-known)))
+              (settled (g .events) (source g i) (below (source g i) (sound .ends i l .source-known)) (sound .ends i l .source-known)))
 
     pub times-follow : (time : ℕ → ℤ) × Follows g delay time
     times-follow =
-        let r = rank-of g (eg .sized .ends) (eg .acyclic) in
+        let r = rank-of g (sound .ends) (sound .acyclic) in
         (timeAt (suc (g .events)), settled-follow (r .0) (r .1) (r .2))

@@ -12,7 +12,7 @@ use lib.IntN.{ℤ, pos, negℤ, _+ℤ_, _-ℤ_}
 use lib.Signed.{_≤ℤ_}
 use Rattle.integers.proofs.Integer.{P, N, linear, sum, difference, negation}
 use Rattle.graphs.specs.Graph.{Graph, rules, source, target}
-use Rattle.graphs.specs.Limits.{EventGraph}
+use Rattle.graphs.specs.Limits.{SoundGraph}
 use Rattle.executions.specs.Execution.{Execution}
 use Rattle.executions.specs.Separation.{Separation, LeastSeparation}
 use Rattle.executions.specs.Steps.{U}
@@ -57,9 +57,9 @@ greatest-delay-not-above {g} {time} {time′} {i} {x} {y} es et a b =
     b .greatest x (a .from-least) (a .to-most)
     (omega (linear, a .in-time, es, et, sum (time (source g i)) x, sum (time′ (source g i)) x))
 
-module _ {b : ℕ} {g : Graph} (eg : EventGraph b g) {s : ℕ} (is-event : s < g .events) where
+module _ {g : Graph} (sound : SoundGraph g) {s : ℕ} (is-event : s < g .events) where
   pub u-unique : {u u′ : ℕ → ℤ} → U g s u → U g s u′ → (v : ℕ) → v < g .events → u v ≡ u′ v
-  u-unique a a′ v h = separation-unique (separation-of eg is-event a v h) (separation-of eg is-event a′ v h)
+  u-unique a a′ v h = separation-unique (separation-of sound is-event a v h) (separation-of sound is-event a′ v h)
 
   module _ {time time′ : ℕ → ℤ} (a : Latest g s time) (a′ : Latest g s time′) where
     pub latest-unique : (v : ℕ) → v < g .events → time v ≡ time′ v
@@ -69,15 +69,15 @@ module _ {b : ℕ} {g : Graph} (eg : EventGraph b g) {s : ℕ} (is-event : s < g
           a .times v h,
           a′ .times v h,
           u-unique (a .steps) (a′ .steps) v h,
-          u-unique (a .steps) (a′ .steps) 0 (eg .sized .counts .some-event),
+          u-unique (a .steps) (a′ .steps) 0 (sound .some-event),
           difference (a .u v) (a .u 0),
           difference (a′ .u v) (a′ .u 0),
         )
 
     pub greatest-delays-unique : {delay delay′ : ℕ → ℤ} → ((i : ℕ) → i < rules g → GreatestDelay g time i (delay i)) → ((i : ℕ) → i < rules g → GreatestDelay g time′ i (delay′ i)) → (i : ℕ) → i < rules g → delay i ≡ delay′ i
     greatest-delays-unique {delay} {delay′} x y i h =
-        let es : time (source g i) ≡ time′ (source g i) = latest-unique (source g i) (eg .sized .ends i h .source-known) in
-        let et : time (target g i) ≡ time′ (target g i) = latest-unique (target g i) (eg .sized .ends i h .target-known) in
+        let es : time (source g i) ≡ time′ (source g i) = latest-unique (source g i) (sound .ends i h .source-known) in
+        let et : time (target g i) ≡ time′ (target g i) = latest-unique (target g i) (sound .ends i h .target-known) in
         let one : delay i ≤ℤ delay′ i = greatest-delay-not-above es et (x i h) (y i h) in
         let other : delay′ i ≤ℤ delay i = greatest-delay-not-above (sym es) (sym et) (y i h) (x i h) in
         omega linear

@@ -1,3 +1,2 @@
--- Laws of a search for the lowest fault, and that the promises allow one answer.
-pub mod Lowest
+-- That the promises allow one answer.
 pub mod Unique

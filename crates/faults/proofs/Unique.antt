@@ -13,7 +13,8 @@ use lib.ListN.{length}
 use Rattle.graphs.specs.Graph.{graphOf}
 use Rattle.graphs.specs.Refusal.{OutsideDelays}
 use Rattle.graphs.proofs.Unique.{delays-kept}
-use Rattle.faults.specs.Faults.{LowestOr, EndsKnown, EndUnknown, InsideDelays, DelaysInside, DelaysOutside}
+use Rattle.verdicts.specs.Verdict.{LowestOr}
+use Rattle.faults.specs.Faults.{EndsKnown, EndUnknown, InsideDelays, DelaysInside, DelaysOutside}
 
 pub known-not-unknown : {n : ℕ} {ss ts : List ℕ} {i : ℕ} → EndsKnown n ss ts i → EndUnknown n ss ts i → ⊥
 known-not-unknown h u = ⊎-elim (λ l. omega (arith, h .source-known)) (λ l. omega (arith, h .target-known)) u

@@ -1,7 +1,6 @@
 -- The faults that a rule of an event graph or a template of a process graph can have by itself, and the search for the lowest. Document 01, section
 -- "Refusal numbers": refusal 2, "a rule or template names an event that doesn't exist", and 3, "a delay is out of range, or d > D"; the place of each is
 -- the "lowest such rule or template".
---     LowestOr k Good Bad r       == r is the lowest number below k of which Bad holds, Good holds of all before it; or k, where there is none
 --     EndsKnown n ss ts i         == the source and the target of entry i are both below n
 --     EndUnknown n ss ts i        == one of them is not
 --     InsideDelays d D            == d and D lie from −1,000,000 to 1,000,000, and d ≤ D
@@ -20,11 +19,6 @@ use lib.Signed.{_≤ℤ_}
 use lib.ListN.{getD}
 use Rattle.integers.specs.Within.{Within}
 use Rattle.graphs.specs.Refusal.{OutsideDelays}
-
-pub record LowestOr (k : ℕ) (Good Bad : ℕ → Type 0) (r : ℕ) : Type 0 where
-  pub within : r ≤ k
-  pub before : (i : ℕ) → i < r → Good i
-  pub bad : r < k → Bad r
 
 pub record EndsKnown (n : ℕ) (ss ts : List ℕ) (i : ℕ) : Type 0 where
   pub source-known : getD ss i 0 < n

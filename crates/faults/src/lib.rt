@@ -5,7 +5,8 @@
 // No caller is trusted: lists of different lengths are looked at as far as both go. The promises are in specs/Faults.antt.
 ghost use Prim.Native.Nat.{min};
 ghost use lib.ListN.{length};
-ghost use Rattle.faults.specs.Faults.{LowestOr, EndsKnown, EndUnknown, DelaysChecked, DelaysInside, DelaysOutside};
+ghost use Rattle.verdicts.specs.Verdict.{LowestOr};
+ghost use Rattle.faults.specs.Faults.{EndsKnown, EndUnknown, DelaysChecked, DelaysInside, DelaysOutside};
 
 const MAX_DELAY: i64 = 1000000;
 

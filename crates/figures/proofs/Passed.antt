@@ -19,6 +19,7 @@ use Rattle.graphs.specs.Limits.{Sized, EventGraph}
 use Rattle.executions.specs.Separation.{Separation}
 use Rattle.executions.specs.Steps.{U}
 use Rattle.executions.specs.Schedule.{Latest}
+use Rattle.graphs.proofs.Limits.{sound-of}
 use Rattle.executions.proofs.Schedules.{greatest-delay-of, schedule-of, separation-of}
 use Rattle.figures.specs.Figures.{Figure, SeparationIs, DepthsAre, CoarseIs, LimitMet, Holds}
 use Rattle.figures.specs.Figures.Figure.{separation-is, depths-are, schedule-is, coarse-is, limit-met, unfolding-is, both}
@@ -100,7 +101,7 @@ separation-passed c g s t x p =
       target-event = target-event;
       separation =
           subst (Separation g s t) (eqZ-passes (uAt c t) x same)
-          (separation-of (event-graph c g tg) (source-event c g tg s ts) (u-is c g tg s ts) t target-event);
+          (separation-of (sound-of (event-graph c g tg)) (source-event c g tg s ts) (u-is c g tg s ts) t target-event);
     }
 
 depths-passed : (c : Certificate) (g : Graph) (s t a d : ℕ) → T (depthsPass c g s t a d) → DepthsAre g s t a d
@@ -150,8 +151,8 @@ passed c (schedule-is g s times delays) p =
       a-time-each = eqb→eq (length times) (g .events) n-times;
       a-delay-each = eqb→eq (length delays) (rules g) n-delays;
       schedule =
-          schedule-of (event-graph c g tg) late (source-event c g tg s ts)
-          (λ i l. greatest-delay-of (event-graph c g tg) late l (delays-lesser g (uAt c) (λ j. getD delays j (pos 0)) (λ v. getD times v (pos 0)) kept i l));
+          schedule-of (sound-of (event-graph c g tg)) late (source-event c g tg s ts)
+          (λ i l. greatest-delay-of (sound-of (event-graph c g tg)) late l (delays-lesser g (uAt c) (λ j. getD delays j (pos 0)) (λ v. getD times v (pos 0)) kept i l));
     }
 passed c (coarse-is g q lows highs s t x) p = coarse-passed c g q lows highs s t x p
 passed c (limit-met g q lows highs s t a d x y) p = limit-passed c c g q lows highs s t a d x y p

@@ -12,7 +12,7 @@ use lib.IntN.{ℤ}
 use lib.Signed.{_≤ℤ_, leZ}
 use lib.Dec.{T}
 use Rattle.integers.proofs.Integer.{linear}
-use Rattle.graphs.proofs.Below.{below-next}
+use Rattle.sequences.proofs.Below.{below-next}
 
 -- ---- two tests
 

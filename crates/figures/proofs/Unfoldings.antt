@@ -10,7 +10,7 @@ use Prim.Native.Nat.{ℕ, zero, suc, _+_, _*_, _<_}
 use lib.IntN.{ℤ, pos}
 use lib.ListN.{length}
 use lib.Dec.{T, eqb, eqb→eq}
-use Rattle.graphs.specs.Graph as Event
+use Rattle.graphs.specs.Graph as rule
 use Rattle.graphs.specs.Graph.{Graph}
 use Rattle.processes.specs.Process.{ProcessGraph, templates, source, target, least, most, mark, occurrence, Node, number, Instance}
 use Rattle.processes.specs.Process.Node.{root, at}
@@ -23,7 +23,7 @@ use Rattle.figures.proofs.Tests.{both-pass, one-passes, allBelow, all-p
 -- rule i leads from u to v with delay [d, D]
 abbrev isRule : Graph → ℕ → Node → Node → ℤ → ℤ → Bool
 isRule graph i u v d D =
-    (eqb (Event.source graph i) (number u) && eqb (Event.target graph i) (number v)) && (eqZ (Event.least graph i) d && eqZ (Event.most graph i) D)
+    (eqb (rule.source graph i) (number u) && eqb (rule.target graph i) (number v)) && (eqZ (rule.least graph i) d && eqZ (rule.most graph i) D)
 
 -- from u, where the mark says so: the rule that template j gives at k ends at occurrence k of the target
 abbrev isMarked : ProcessGraph → ℕ → ℕ → Graph → ℕ → ℕ → Node → ℤ → ℤ → Bool
@@ -42,23 +42,23 @@ isInstance g graph k j = isTogether g k j graph (k * templates g + j) || isLater
 module _ (g : ProcessGraph) (j : ℕ) (graph : Graph) (i : ℕ) where
   rule-passes : (k : ℕ) (u v : Node) (d D : ℤ) → Instance g k j u v d D → T (isRule graph i u v d D) → RuleAt g k j graph i
   rule-passes k u v d D instance t =
-      let (ends, delays) = both-pass (eqb (Event.source graph i) (number u) && eqb (Event.target graph i) (number v)) _ t in
-      let (from, to) = both-pass (eqb (Event.source graph i) (number u)) _ ends in
-      let (low, high) = both-pass (eqZ (Event.least graph i) d) _ delays in
+      let (ends, delays) = both-pass (eqb (rule.source graph i) (number u) && eqb (rule.target graph i) (number v)) _ t in
+      let (from, to) = both-pass (eqb (rule.source graph i) (number u)) _ ends in
+      let (low, high) = both-pass (eqZ (rule.least graph i) d) _ delays in
       record {
         from = u;
         to = v;
-        from-number = eqb→eq (Event.source graph i) (number u) from;
-        to-number = eqb→eq (Event.target graph i) (number v) to;
+        from-number = eqb→eq (rule.source graph i) (number u) from;
+        to-number = eqb→eq (rule.target graph i) (number v) to;
         instance =
-            subst (λ x. Instance g k j u v x (Event.most graph i)) (sym (eqZ-passes (Event.least graph i) d low))
-            (subst (λ x. Instance g k j u v d x) (sym (eqZ-passes (Event.most graph i) D high)) instance);
+            subst (λ x. Instance g k j u v x (rule.most graph i)) (sym (eqZ-passes (rule.least graph i) d low))
+            (subst (λ x. Instance g k j u v d x) (sym (eqZ-passes (rule.most graph i) D high)) instance);
       }
 
   marked-passes : (k offset : ℕ) (u : Node) (d D : ℤ) → (mark g j ≡ offset → Instance g k j u (at (occurrence g k (target g j))) d D) → T (isMarked g k j graph i offset u d D) → RuleAt g k j graph i
   marked-passes k offset u d D gives t =
-      let (marked, rule) = both-pass (eqb (mark g j) offset) _ t in
-      rule-passes k u (at (occurrence g k (target g j))) d D (gives (eqb→eq (mark g j) offset marked)) rule
+      let (marked, stands) = both-pass (eqb (mark g j) offset) _ t in
+      rule-passes k u (at (occurrence g k (target g j))) d D (gives (eqb→eq (mark g j) offset marked)) stands
 
   together-passes : (k : ℕ) → T (isTogether g k j graph i) → RuleAt g k j graph i
   together-passes k = marked-passes k 0 (at (occurrence g k (source g j))) (least g j) (most g j) together

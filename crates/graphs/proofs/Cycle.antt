@@ -12,7 +12,7 @@ use native.Mathlib.Omega.{arith}
 use Rattle.graphs.specs.Graph.{Graph, rules, source, target}
 use Rattle.graphs.specs.Path.{Path, stay, step, steps, HasCycle}
 use Rattle.graphs.specs.Limits.{EndsKept}
-use Rattle.graphs.proofs.Pigeonhole.{Twice, pigeonhole}
+use Rattle.sequences.proofs.Pigeonhole.{Twice, pigeonhole}
 
 abbrev pub eventAt : {g : Graph} {u v : ℕ} → Path g u v → ℕ → ℕ
 eventAt {u = u} p zero = u

@@ -2,10 +2,11 @@
 --     greatest-exists      where a rule leads to v, there is a greatest value over the rules into v
 --     greatest-le          it grows with the values
 --     greatest-unique      it is determined by the values
+--     greatest-same        so it stays where they do
 --     incoming             every event but the root has a rule that leads to it
 --     root-has-no-rule     no rule leads to the root
 -- Assumes nothing.
-use mathlib.Core.Path.{_≡_, refl, sym}
+use mathlib.Core.Path.{_≡_, refl, sym, _∙_}
 use mathlib.Core.Bool.{Bool, true, false}
 use Prim.Native.Nat.{ℕ, zero, suc, _<_}
 use native.Mathlib.Decide.{ℕ-discrete}
@@ -15,8 +16,8 @@ use lib.Signed.{_≤ℤ_, leZ}
 use Rattle.integers.proofs.Integer.{linear}
 use Rattle.graphs.specs.Graph.{Graph, rules, source, target, Greatest}
 use Rattle.graphs.specs.Path.{Path}
-use Rattle.graphs.specs.Limits.{EventGraph}
-use Rattle.graphs.proofs.Below.{below-next}
+use Rattle.graphs.specs.Limits.{SoundGraph}
+use Rattle.sequences.proofs.Below.{below-next}
 use Rattle.graphs.proofs.Paths.{along, steps-along, LastRule, no-last, last, last-rule}
 
 -- ---- the greatest value is there
@@ -66,17 +67,22 @@ pub greatest-unique :
 greatest-unique a b same =
     omega (linear, greatest-le a b (λ i l to. omega (linear, same i l to)), greatest-le b a (λ i l to. omega (linear, same i l to)))
 
+pub greatest-same : {g : Graph} {v : ℕ} {f h : ℕ → ℤ} {x : ℤ} → Greatest g v f x → ((i : ℕ) → i < rules g → target g i ≡ v → f i ≡ h i) → Greatest g v h x
+greatest-same a same =
+    let (i, l, to, e) = a .reached in
+    record { reached = (i, l, to, sym (same i l to) ∙ e); bound = λ j k leads. omega (linear, same j k leads, a .bound j k leads) }
+
 -- ---- rules into an event
 
-pub incoming : {b : ℕ} {g : Graph} {v : ℕ} → EventGraph b g → v < g .events → (v ≡ 0 → ⊥) → (i : ℕ) × (i < rules g) × (target g i ≡ v)
-incoming {g = g} {v = v} graph l other = by (last-rule (graph .reachable v l))
+pub incoming : {g : Graph} {v : ℕ} → SoundGraph g → v < g .events → (v ≡ 0 → ⊥) → (i : ℕ) × (i < rules g) × (target g i ≡ v)
+incoming {g} {v} graph l other = by (last-rule (graph .reachable v l))
   where
     by : {p : Path g 0 v} → LastRule g 0 v p → (i : ℕ) × (i < rules g) × (target g i ≡ v)
     by (no-last same no-rule zero-sum) = absurd (other (sym same))
     by (last i h to q one-more its-sum) = (i, h, to)
 
 -- a rule to the root closes the path from the root to its source
-pub root-has-no-rule : {b : ℕ} {g : Graph} → EventGraph b g → (i : ℕ) → i < rules g → target g i ≡ 0 → ⊥
-root-has-no-rule {g = g} graph i l to =
-    let p : Path g 0 (source g i) = graph .reachable (source g i) (graph .sized .ends i l .source-known) in
+pub root-has-no-rule : {g : Graph} → SoundGraph g → (i : ℕ) → i < rules g → target g i ≡ 0 → ⊥
+root-has-no-rule {g} graph i l to =
+    let p : Path g 0 (source g i) = graph .reachable (source g i) (graph .ends i l .source-known) in
     graph .acyclic (0, along p i l refl to, omega (arith, steps-along p i l refl to))

@@ -1,8 +1,8 @@
 -- Laws of event graphs, for every crate above.
-pub mod Below
-pub mod Pigeonhole
 pub mod Cycle
 pub mod Paths
 pub mod Rank
+pub mod Limits
 pub mod Greatest
 pub mod Unique
+pub mod Refusals

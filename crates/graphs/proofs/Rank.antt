@@ -14,7 +14,7 @@ use native.Mathlib.Omega.{arith}
 use Rattle.graphs.specs.Graph.{Graph, rules, source, target}
 use Rattle.graphs.specs.Path.{Path, stay, steps, HasCycle}
 use Rattle.graphs.specs.Limits.{EndsKept}
-use Rattle.graphs.proofs.Below.{below-next}
+use Rattle.sequences.proofs.Below.{below-next}
 use Rattle.graphs.proofs.Cycle.{long-path-cycle}
 use Rattle.graphs.proofs.Paths.{along, steps-along, LastRule, no-last, last, last-rule}
 

@@ -1,36 +1,24 @@
--- The refusals. Document 01, section "Refusal numbers": "The first that applies is given, in this order".
---     First k At Rest          == the verdict whose first rule is: number k, with place p exactly where At p holds; else as Rest says
---     Accepted                 == the verdict when no rule is left: number 0, which is no refusal, place 0
---     AtZero A                 == A holds, and the place is 0
---     Lowest A p               == p is the lowest number of which A holds
+-- The refusals of a question about two events of a graph. Document 01, section "Refusal numbers": "The first that applies is given, in this order".
 --     CountsOutside g          == refusal 1 of the graph: a count is outside its limits, or the rule lists differ in length
 --     UnknownEvent g i         == refusal 2: rule i names an event that doesn't exist
 --     DelayOutside g i         == refusal 3: a delay of rule i is out of range, or d > D
+--     MissingEnd g s t p       == refusal 4: "s or t doesn't exist", place "0 if s, else 1"
 --     Unreached g v            == refusal 6: event v isn't reachable from the root
--- Refusal 5 is `HasCycle` of Path.antt. A verdict is a relation of a number and a place. Assumes nothing.
+--     graphChecks g            == refusals 1 to 3, in 01's order: those of the graph before any path is looked at
+--     questionChecks g s t Short == refusals 1 to 4: the same of a question, with a lent list too short where Short says so
+--     pathChecks g             == refusals 5 and 6
+--     GraphVerdict g           == the refusals of a graph alone: 1, 2, 3, 5, 6
+-- Refusal 5 is `HasCycle` of Path.antt. Assumes nothing.
 use mathlib.Core.Path.{_≡_}
 use mathlib.Core.Logic.{_⊎_}
+use mathlib.Core.List.{List, [], _∷_, _++_}
 use Prim.Native.Nat.{ℕ, _<_, _≤_}
 use lib.IntN.{ℤ, pos, negℤ}
 use lib.Signed.{_<ℤ_}
 use lib.ListN.{length}
+use Rattle.verdicts.specs.Verdict.{Check, check, FirstOf, AtZero, Lowest}
 use Rattle.graphs.specs.Graph.{Graph, rules, source, target, least, most}
-use Rattle.graphs.specs.Path.{Path, Reachable}
-
-pub data First (k : ℕ) (At : ℕ → Type 0) (Rest : ℕ → ℕ → Type 0) : ℕ → ℕ → Type 0 where
-  given : {p : ℕ} → At p → First k At Rest k p
-  passed : {j p : ℕ} → ((q : ℕ) → At q → ⊥) → Rest j p → First k At Rest j p
-
-pub data Accepted : ℕ → ℕ → Type 0 where
-  accepted : Accepted 0 0
-
-pub record AtZero (A : Type 0) (p : ℕ) : Type 0 where
-  pub zero-place : p ≡ 0
-  pub holds : A
-
-pub record Lowest (A : ℕ → Type 0) (p : ℕ) : Type 0 where
-  pub holds : A p
-  pub lowest : (q : ℕ) → q < p → A q → ⊥
+use Rattle.graphs.specs.Path.{Path, HasCycle, Reachable}
 
 -- "a count is outside its limits, the rule … lists differ in length"
 pub data CountsOutside (g : Graph) : Type 0 where
@@ -58,7 +46,26 @@ pub record DelayOutside (g : Graph) (i : ℕ) : Type 0 where
   pub is-rule : i < rules g
   pub outside : OutsideDelays (least g i) (most g i)
 
+-- "s or t doesn't exist"; "0 if s, else 1"
+pub data MissingEnd (g : Graph) (s t : ℕ) : ℕ → Type 0 where
+  source-missing : g .events ≤ s → MissingEnd g s t 0
+  target-missing : s < g .events → g .events ≤ t → MissingEnd g s t 1
+
 -- "an event isn't reachable from the root"
 pub record Unreached (g : Graph) (v : ℕ) : Type 0 where
   pub is-event : v < g .events
   pub no-path : Reachable g v → ⊥
+
+-- "analysis 1, 2, 3, 4, … 5, 6"
+abbrev pub graphChecks : Graph → List Check
+graphChecks g = check 1 (AtZero (CountsOutside g)) ∷ check 2 (Lowest (UnknownEvent g)) ∷ check 3 (Lowest (DelayOutside g)) ∷ []
+
+abbrev pub questionChecks : Graph → ℕ → ℕ → Type 0 → List Check
+questionChecks g s t Short = check 1 (AtZero (CountsOutside g ⊎ Short)) ∷ check 2 (Lowest (UnknownEvent g)) ∷ check 3 (Lowest (DelayOutside g)) ∷ check 4 (MissingEnd g s t) ∷ []
+
+abbrev pub pathChecks : Graph → List Check
+pathChecks g = check 5 (AtZero (HasCycle g)) ∷ check 6 (Lowest (Unreached g)) ∷ []
+
+-- "then as the analysis": of a graph with no s and t, there is no refusal 4
+abbrev pub GraphVerdict : Graph → ℕ → ℕ → Type 0
+GraphVerdict g = FirstOf (graphChecks g ++ pathChecks g)

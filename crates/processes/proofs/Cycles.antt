@@ -16,29 +16,33 @@
 -- number 2 of occurrence 1 of event 0, and a template of mark 1 from event 1 to event 0 would give, at k = 1, a rule from 2 to 2.
 -- Assumes nothing.
 use mathlib.Core.Path.{_≡_, refl, sym, ap, subst, _∙_}
-use mathlib.Core.Logic.{⊎-elim, _↔_}
-use mathlib.Core.List.{List}
+use mathlib.Core.Logic.{_↔_}
+use mathlib.Core.List.{List, [], _∷_}
 use Prim.Native.Nat.{ℕ, suc, _+_, _*_, _<_, _≤_}
 use native.Mathlib.Omega.{arith}
 use lib.IntN.{ℤ}
 use lib.ListN.{take}
-use Rattle.graphs.specs.Graph as event
+use Rattle.graphs.specs.Graph as rule
 use Rattle.graphs.specs.Graph.{Graph, graphOf, rules}
 use Rattle.graphs.specs.Path.{Path, stay, step, steps, HasCycle}
-use Rattle.graphs.specs.Refusal.{given, passed, accepted}
+use Rattle.graphs.proofs.Refusals.{cycle-exactly}
+use Rattle.verdicts.specs.Verdict.{check}
+use Rattle.verdicts.proofs.Verdicts.{rest-of}
 use Rattle.faults.specs.Faults.{EndsKnown}
 use Rattle.separation.specs.declared.Answer.{Answer}
 use Rattle.separation.specs.Promise as analysis
 use Rattle.separation.specs.Coarse.{StepOutside, CoarseVerdict}
+use Rattle.separation.proofs.Verdicts.{step-kept}
 use Rattle.processes.specs.declared.Event.{Event}
 use Rattle.processes.specs.declared.Unfolded.{Unfolded}
 use Rattle.processes.specs.Process.{ProcessGraph, templates, source, target, occurrence, Node, at, number, Instance, together, onward, start}
 use Rattle.processes.specs.Ways.{MarkZeroWay, empty, along, templatesOn, MarkZeroCycle}
-use Rattle.processes.specs.Unfolding.{Unfolds, Answered, Written}
+use Rattle.processes.specs.Unfolding.{Unfolds, UnfoldingAnswered, UnfoldingWritten}
 use Rattle.processes.proofs.Numbers.{place-below, Place, place-found}
 use Rattle.processes.proofs.Occurrences.{event-same, numbers-apart, never-root}
 use Rattle.processes.proofs.Exactly.{instance-unique, rule-at-place}
-use Rattle.processes.proofs.Handed.{Kept, unfolded-sized, first-rest, past-4, handed}
+use Rattle.processes.proofs.Refusals.{Kept}
+use Rattle.processes.proofs.Handed.{unfolded-sized, past-question, handed}
 
 -- ---- from the process graph to its unfolding
 
@@ -104,7 +108,7 @@ module _ {g : ProcessGraph} {K : ℕ} {graph : Graph} (unfolds : Unfolds g K gra
   place-of : (i : ℕ) → i < rules graph → Place (templates g) K i
   place-of i l = place-found (templates g) K i (omega (arith, unfolds .sources-count))
 
-  rule-enters : (i : ℕ) (p : Place (templates g) K i) → event.target graph i ≡ occurrence g (p .row) (target g (p .within)) .0
+  rule-enters : (i : ℕ) (p : Place (templates g) K i) → rule.target graph i ≡ occurrence g (p .row) (target g (p .within)) .0
   rule-enters i p =
       let r = rule-at-place unfolds i p in
       r .to-number ∙ ap number (instance-enters (r .instance))
@@ -137,32 +141,26 @@ module _ {g : ProcessGraph} {K : ℕ} {graph : Graph} (unfolds : Unfolds g K gra
 
 -- ---- the analysis's verdict
 
-path-5 : {graph : Graph} {j p : ℕ} → analysis.PathVerdict graph j p → (j ≡ 5) ↔ HasCycle graph
-path-5 (given a) = (λ _. a .holds, λ _. refl)
-path-5 (passed none (given a)) = (λ e. absurd (let no : ⊥ = omega arith in no), λ c. absurd (none 0 (record { zero-place = refl; holds = c })))
-path-5 (passed none (passed none′ accepted)) = (λ e. absurd (let no : ⊥ = omega arith in no), λ c. absurd (none 0 (record { zero-place = refl; holds = c })))
-
 module _ {g : ProcessGraph} {K : ℕ} {graph : Graph} (kept : Kept g K) (unfolds : Unfolds g K graph)
     {s t : ℕ} (hs : s < graph .events) (ht : t < graph .events) where
   path-5-exactly : {j p : ℕ} → analysis.PathVerdict graph j p → (j ≡ 5) ↔ MarkZeroCycle g
   path-5-exactly v =
       let known : (j : ℕ) → j < templates g → EndsKnown (g .events) (g .sources) (g .targets) j =
-      λ j l. record { source-known = kept .ends j l .source-known; target-known = kept .ends j l .target-known } in
+      λ j l. record { source-known = kept .each .ends j l .source-known; target-known = kept .each .ends j l .target-known } in
       let agree = cycles-agree unfolds known (kept .counts .some-copy) in
-      let by = path-5 v in
+      let by = cycle-exactly v in
       (λ e. agree .0 (by .0 e), λ c. by .1 (agree .1 c))
 
   pub refused-5-exactly : {Short : Type 0} {j p : ℕ} → (Short → ⊥) → analysis.Verdict graph s t Short j p → (j ≡ 5) ↔ MarkZeroCycle g
-  refused-5-exactly room v = path-5-exactly (past-4 (unfolded-sized kept unfolds) room hs ht v)
+  refused-5-exactly room v = path-5-exactly (past-question (unfolded-sized kept unfolds) room hs ht v)
 
   pub coarse-5-exactly : {q j p : ℕ} → 1 ≤ q → q ≤ 1000 → CoarseVerdict graph q s t j p → (j ≡ 5) ↔ MarkZeroCycle g
-  coarse-5-exactly {q} positive small v =
-      let some-step : q ≡ 0 → ⊥ = λ e. omega arith in
-      let no-more : 1000 < q → ⊥ = λ l. omega arith in
-      path-5-exactly (first-rest (λ p o. ⊎-elim some-step no-more (o .outside)) (past-4 (unfolded-sized kept unfolds) (λ no. no) hs ht v))
+  coarse-5-exactly {q} {j} {p} positive small v =
+      path-5-exactly
+      (rest-of (check 9 (StepOutside q) ∷ []) (analysis.PathVerdict graph) j p (step-kept positive small, tt) (past-question (unfolded-sized kept unfolds) (λ no. no) hs ht v))
 
 pub handed-5-exactly : {g : ProcessGraph} {K : ℕ} {Short : Type 0} {a : Unfolded} {ss₀ ts₀ : List ℕ} {ds₀ Ds₀ : List ℤ} {ss ts : List ℕ} {ds Ds : List ℤ}
-    → Answered g K Short a → a .refusal ≡ 0 → Written g K a ss₀ ts₀ ds₀ Ds₀ ss ts ds Ds
+    → UnfoldingAnswered g K Short a → a .refusal ≡ 0 → UnfoldingWritten g K a ss₀ ts₀ ds₀ Ds₀ ss ts ds Ds
     → {s t : ℕ} {Short′ : Type 0} {answer : Answer} → (Short′ → ⊥) → s < a .events → t < a .events
     → analysis.Answered (graphOf (a .events) (take (a .rules) ss) (take (a .rules) ts) (take (a .rules) ds) (take (a .rules) Ds)) s t Short′ answer
     → (answer .refusal ≡ 5) ↔ MarkZeroCycle g

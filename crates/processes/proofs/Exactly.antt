@@ -1,24 +1,24 @@
 -- The unfolded graph holds the rules of 01's list, which are those of the report's R, cut off at K: nothing is missing, nothing is more, and each is there
 -- once for its template and k.
---     SameRule …          two rules have equal ends and delays
---     instance-unique     a template has one instance at one k
---     rules-in-R          each rule of 01's list is one of R
---     R-in-rules          each rule of R is one of 01's list, where the marks are 0 or 1
---     same-rules          both at once
---     rule-at-place       rule i of the unfolding is the instance of a template at a k below K
---     marks-kept          where something unfolds, the marks are 0 or 1
---     InGraph graph u v d D, Listed L graph i     the graph has a rule from u to v with delay [d, D]; its rule i is one of L
---     nothing-missing     each rule of 01's list is a rule of the graph;       R-nothing-missing     each rule of R is
---     nothing-more        each rule of the graph is one of 01's list;          R-nothing-more        and one of R
---     EachOnce T K i      i is the place of one template at one k, and of no other
---     each-once           so is the place of every rule
+--     SameRule …                                 two rules have equal ends and delays
+--     instance-unique                            a template has one instance at one k
+--     rules-in-R                                 each rule of 01's list is one of R
+--     R-in-rules                                 each rule of R is one of 01's list, where the marks are 0 or 1
+--     same-rules                                 both at once
+--     rule-at-place                              rule i of the unfolding is the instance of a template at a k below K
+--     marks-kept                                 where something unfolds, the marks are 0 or 1
+--     InGraph graph u v d D, Listed L graph i    the graph has a rule from u to v with delay [d, D]; its rule i is one of L
+--     nothing-missing                            each rule of 01's list is a rule of the graph;       R-nothing-missing     each rule of R is
+--     nothing-more                               each rule of the graph is one of 01's list;          R-nothing-more        and one of R
+--     EachOnce T K i                             i is the place of one template at one k, and of no other
+--     each-once                                  so is the place of every rule
 -- 01 lists a rule by the occurrence of its target, the report by that of its source. Assumes nothing.
 use mathlib.Core.Path.{_≡_, refl, sym, ap, subst, _∙_}
 use mathlib.Core.Logic.{_⊎_, inl, inr, _↔_}
 use Prim.Native.Nat.{ℕ, _+_, _*_, _<_}
 use native.Mathlib.Omega.{arith}
 use lib.IntN.{ℤ, pos}
-use Rattle.graphs.specs.Graph as Event
+use Rattle.graphs.specs.Graph as rule
 use Rattle.graphs.specs.Graph.{Graph, rules}
 use Rattle.processes.specs.Process.{ProcessGraph, templates, source, target, least, most, mark, occurrence, Node, root, at, number, Instance, together, onward, start, Rules, R, instantiated, startup}
 use Rattle.processes.specs.Unfolding.{RuleAt, Unfolds}
@@ -88,12 +88,12 @@ module _ {g : ProcessGraph} {K : ℕ} where
 -- one of the graph's rules leads from u to v with delay [d, D]
 abbrev pub InGraph : Graph → Node → Node → ℤ → ℤ → Type 0
 InGraph graph u v d D =
-    (i : ℕ) × (i < rules graph) × (Event.source graph i ≡ number u) × (Event.target graph i ≡ number v) × (Event.least graph i ≡ d) × (Event.most graph i ≡ D)
+    (i : ℕ) × (i < rules graph) × (rule.source graph i ≡ number u) × (rule.target graph i ≡ number v) × (rule.least graph i ≡ d) × (rule.most graph i ≡ D)
 
 -- rule i of the graph is one of L
 abbrev pub Listed : (Node → Node → ℤ → ℤ → Type 0) → Graph → ℕ → Type 0
 Listed L graph i =
-    (u : Node) × (v : Node) × (L u v (Event.least graph i) (Event.most graph i)) × (Event.source graph i ≡ number u) × (Event.target graph i ≡ number v)
+    (u : Node) × (v : Node) × (L u v (rule.least graph i) (rule.most graph i)) × (rule.source graph i ≡ number u) × (rule.target graph i ≡ number v)
 
 module _ {g : ProcessGraph} {K : ℕ} {graph : Graph} (unfolds : Unfolds g K graph) where
   pub rule-at-place : (i : ℕ) (p : Place (templates g) K i) → RuleAt g (p .row) (p .within) graph i

@@ -2,8 +2,9 @@
 pub mod Numbers
 pub mod Exactly
 pub mod Occurrences
-pub mod Cycles
+pub mod Refusals
 pub mod Handed
+pub mod Cycles
 pub mod Unique
 pub mod Products
 pub mod Verdicts

@@ -1,46 +1,43 @@
 -- The promise of the unfolding fixes its result: two results allowed for one input are equal, lists included.
---     unfolding-verdict-unique    a process graph has one verdict
---     answered-unique             two answers to one question are equal
---     answered-exactly            a refusal is given exactly when its rule says: whatever number and place the verdict allows, the answer has them
---     SameEntries i               rule i of two event graphs is the same
---     graphs-agree                two event graphs that are the unfolding of one process graph are equal
---     same-list                   lists that agree up to n and beyond are equal
---     Same, written-unique        what two runs leave in the four lists
---     unfold-unique               all of it: two results of `unfold` are equal
+--     unfolding-verdict-unique         a process graph has one verdict
+--     answered-unique                  two answers to one question are equal
+--     answered-exactly                 a refusal is given exactly when its rule says: whatever number and place the verdict allows, the answer has them
+--     SameEntries i                    rule i of two event graphs is the same
+--     graphs-agree                     two event graphs that are the unfolding of one process graph are equal
+--     SameRuleLists, written-unique    what two runs leave in the four lists
+--     unfold-unique                    all of it: two results of `unfold` are equal
 -- Assumes nothing.
 use mathlib.Core.Path.{_≡_, sym, ap, subst, _∙_}
-use mathlib.Core.List.{List, _++_}
+use mathlib.Core.List.{List}
 use Prim.Native.Nat.{ℕ, _*_, _<_}
 use native.Mathlib.Decide.{ℕ-discrete}
 use native.Mathlib.Omega.{arith}
 use lib.IntN.{ℤ, pos}
-use lib.ListN.{take, drop, take-append-drop}
 use lib.Seq.{ext-getD}
-use Rattle.graphs.specs.Graph as Event
+use Rattle.sequences.proofs.Same.{same-parts}
+use Rattle.graphs.specs.Graph as rule
 use Rattle.graphs.specs.Graph.{Graph}
-use Rattle.graphs.proofs.Unique.{lowest-unique, atZero-unique, first-unique, accepted-unique}
+use Rattle.verdicts.proofs.Verdicts.{one-verdict}
 use Rattle.processes.specs.declared.Unfolded.{Unfolded}
 use Rattle.processes.specs.Process.{ProcessGraph, templates, number}
-use Rattle.processes.specs.Unfolding.{Verdict, Unfolds, Answered, Written}
+use Rattle.processes.specs.Unfolding.{processChecks, UnfoldingVerdict, Unfolds, UnfoldingAnswered, UnfoldingWritten}
 use Rattle.processes.proofs.Numbers.{place-found}
 use Rattle.processes.proofs.Exactly.{instance-unique, rule-at-place}
+use Rattle.processes.proofs.Refusals.{process-places}
 
 -- ---- the answer
 
-pub unfolding-verdict-unique : {g : ProcessGraph} {K : ℕ} {Short : Type 0} {i p j q : ℕ} → Verdict g K Short i p → Verdict g K Short j q → (i ≡ j) × (p ≡ q)
-unfolding-verdict-unique =
-    first-unique (λ p q. atZero-unique)
-    (λ i p j q. first-unique (λ p q. lowest-unique)
-    (λ i p j q. first-unique (λ p q. lowest-unique) (λ i p j q. first-unique (λ p q. lowest-unique) (λ i p j q. accepted-unique))))
+pub unfolding-verdict-unique : {g : ProcessGraph} {K : ℕ} {Short : Type 0} {i p j q : ℕ} → UnfoldingVerdict g K Short i p → UnfoldingVerdict g K Short j q → (i ≡ j) × (p ≡ q)
+unfolding-verdict-unique {g} {K} {Short} {i} {p} {j} {q} v w = one-verdict (processChecks g K Short) (process-places g K Short) i p j q v w
 
-pub answered-exactly : {g : ProcessGraph} {K : ℕ} {Short : Type 0} {a : Unfolded} → Answered g K Short a → {j p : ℕ} → Verdict g K Short j p → (a .refusal ≡ j) × (a .place ≡ p)
+pub answered-exactly : {g : ProcessGraph} {K : ℕ} {Short : Type 0} {a : Unfolded} → UnfoldingAnswered g K Short a → {j p : ℕ} → UnfoldingVerdict g K Short j p → (a .refusal ≡ j) × (a .place ≡ p)
 answered-exactly x v = unfolding-verdict-unique (x .verdict) v
 
 -- an answer is its four numbers
 same-unfolded : {a b : Unfolded} → a .refusal ≡ b .refusal → a .place ≡ b .place → a .events ≡ b .events → a .rules ≡ b .rules → a ≡ b
 same-unfolded e f h k = λ i. record { refusal = e i; place = f i; events = h i; rules = k i }
 
-pub answered-unique : {g : ProcessGraph} {K : ℕ} {Short : Type 0} {a b : Unfolded} → Answered g K Short a → Answered g K Short b → a ≡ b
+pub answered-unique : {g : ProcessGraph} {K : ℕ} {Short : Type 0} {a b : Unfolded} → UnfoldingAnswered g K Short a → UnfoldingAnswered g K Short b → a ≡ b
 answered-unique {a = a} {b} x y = go (ℕ-discrete (a .refusal) 0)
   where
     same : (a .refusal ≡ b .refusal) × (a .place ≡ b .place)
@@ -59,10 +56,10 @@ answered-unique {a = a} {b} x y = go (ℕ-discrete (a .refusal) 0)
 -- rule i of both graphs is the instance of one template at one k, and there is one such instance
 module _ {g : ProcessGraph} {K : ℕ} {graph graph′ : Graph} (x : Unfolds g K graph) (y : Unfolds g K graph′) where
   record SameEntries (i : ℕ) : Type 0 where
-    pub source-same : Event.source graph i ≡ Event.source graph′ i
-    pub target-same : Event.target graph i ≡ Event.target graph′ i
-    pub least-same : Event.least graph i ≡ Event.least graph′ i
-    pub most-same : Event.most graph i ≡ Event.most graph′ i
+    pub source-same : rule.source graph i ≡ rule.source graph′ i
+    pub target-same : rule.target graph i ≡ rule.target graph′ i
+    pub least-same : rule.least graph i ≡ rule.least graph′ i
+    pub most-same : rule.most graph i ≡ rule.most graph′ i
 
   entries-agree : (i : ℕ) → i < templates g * K → SameEntries i
   entries-agree i l =
@@ -86,28 +83,25 @@ module _ {g : ProcessGraph} {K : ℕ} {graph graph′ : Graph} (x : Unfolds g K 
       let events : graph .events ≡ graph′ .events = x .event-count ∙ sym (y .event-count) in
       λ i. record { events = events i; sources = sources i; targets = targets i; leasts = leasts i; mosts = mosts i }
 
-pub same-list : {A : Type 0} (n : ℕ) (xs ys : List A) → take n xs ≡ take n ys → drop n xs ≡ drop n ys → xs ≡ ys
-same-list n xs ys up-to beyond = sym (take-append-drop n xs) ∙ (λ i. up-to i ++ beyond i) ∙ take-append-drop n ys
-
-pub record Same (ss ss′ ts ts′ : List ℕ) (ds ds′ Ds Ds′ : List ℤ) : Type 0 where
+pub record SameRuleLists (ss ss′ ts ts′ : List ℕ) (ds ds′ Ds Ds′ : List ℤ) : Type 0 where
   pub sources : ss ≡ ss′
   pub targets : ts ≡ ts′
   pub leasts : ds ≡ ds′
   pub mosts : Ds ≡ Ds′
 
 pub written-unique : {g : ProcessGraph} {K : ℕ} {a : Unfolded} {ss₀ ts₀ : List ℕ} {ds₀ Ds₀ : List ℤ} {ss ss′ ts ts′ : List ℕ} {ds ds′ Ds Ds′ : List ℤ}
-    → Written g K a ss₀ ts₀ ds₀ Ds₀ ss ts ds Ds → Written g K a ss₀ ts₀ ds₀ Ds₀ ss′ ts′ ds′ Ds′
-    → Same ss ss′ ts ts′ ds ds′ Ds Ds′
+    → UnfoldingWritten g K a ss₀ ts₀ ds₀ Ds₀ ss ts ds Ds → UnfoldingWritten g K a ss₀ ts₀ ds₀ Ds₀ ss′ ts′ ds′ Ds′
+    → SameRuleLists ss ss′ ts ts′ ds ds′ Ds Ds′
 written-unique {g} {K} {a} {ss = ss} {ss′} {ts} {ts′} {ds} {ds′} {Ds} {Ds′} w w′ = go (ℕ-discrete (a .refusal) 0)
   where
-    go : Dec (a .refusal ≡ 0) → Same ss ss′ ts ts′ ds ds′ Ds Ds′
+    go : Dec (a .refusal ≡ 0) → SameRuleLists ss ss′ ts ts′ ds ds′ Ds Ds′
     go (yes e) =
         let graphs = graphs-agree (w .unfolds e) (w′ .unfolds e) in
         record {
-          sources = same-list (templates g * K) ss ss′ (ap (λ (h : Graph). h .sources) graphs) (w .sources-beyond e ∙ sym (w′ .sources-beyond e));
-          targets = same-list (templates g * K) ts ts′ (ap (λ (h : Graph). h .targets) graphs) (w .targets-beyond e ∙ sym (w′ .targets-beyond e));
-          leasts = same-list (templates g * K) ds ds′ (ap (λ (h : Graph). h .leasts) graphs) (w .leasts-beyond e ∙ sym (w′ .leasts-beyond e));
-          mosts = same-list (templates g * K) Ds Ds′ (ap (λ (h : Graph). h .mosts) graphs) (w .mosts-beyond e ∙ sym (w′ .mosts-beyond e));
+          sources = same-parts (templates g * K) ss ss′ (ap (λ (h : Graph). h .sources) graphs) (w .sources-beyond e ∙ sym (w′ .sources-beyond e));
+          targets = same-parts (templates g * K) ts ts′ (ap (λ (h : Graph). h .targets) graphs) (w .targets-beyond e ∙ sym (w′ .targets-beyond e));
+          leasts = same-parts (templates g * K) ds ds′ (ap (λ (h : Graph). h .leasts) graphs) (w .leasts-beyond e ∙ sym (w′ .leasts-beyond e));
+          mosts = same-parts (templates g * K) Ds Ds′ (ap (λ (h : Graph). h .mosts) graphs) (w .mosts-beyond e ∙ sym (w′ .mosts-beyond e));
         }
     go (no n) =
         record {
@@ -118,10 +112,10 @@ written-unique {g} {K} {a} {ss = ss} {ss′} {ts} {ts′} {ds} {ds′} {Ds} {Ds�
         }
 
 pub unfold-unique : {g : ProcessGraph} {K : ℕ} {Short : Type 0} {a b : Unfolded} {ss₀ ts₀ : List ℕ} {ds₀ Ds₀ : List ℤ} {ss ss′ ts ts′ : List ℕ} {ds ds′ Ds Ds′ : List ℤ}
-    → Answered g K Short a → Written g K a ss₀ ts₀ ds₀ Ds₀ ss ts ds Ds
-    → Answered g K Short b → Written g K b ss₀ ts₀ ds₀ Ds₀ ss′ ts′ ds′ Ds′
-    → (a ≡ b) × (Same ss ss′ ts ts′ ds ds′ Ds Ds′)
+    → UnfoldingAnswered g K Short a → UnfoldingWritten g K a ss₀ ts₀ ds₀ Ds₀ ss ts ds Ds
+    → UnfoldingAnswered g K Short b → UnfoldingWritten g K b ss₀ ts₀ ds₀ Ds₀ ss′ ts′ ds′ Ds′
+    → (a ≡ b) × (SameRuleLists ss ss′ ts ts′ ds ds′ Ds Ds′)
 unfold-unique {g} {K} {ss₀ = ss₀} {ts₀} {ds₀} {Ds₀} {ss′ = ss′} {ts′ = ts′} {ds′ = ds′} {Ds′ = Ds′} pa wa pb wb =
     let same = answered-unique pa pb in
-    let w = subst (λ (x : Unfolded). Written g K x ss₀ ts₀ ds₀ Ds₀ ss′ ts′ ds′ Ds′) (sym same) wb in
+    let w = subst (λ (x : Unfolded). UnfoldingWritten g K x ss₀ ts₀ ds₀ Ds₀ ss′ ts′ ds′ Ds′) (sym same) wb in
     (same, written-unique wa w)

@@ -1,12 +1,12 @@
 -- The loop that writes the rules, one place a turn.
---     rule-at                  a place that holds the four numbers of a template's rule holds its instance
---     same-rule                a place that is left alone holds what it held
---     Writing g K … i k j      the places before i = k × templates + j are written, those from templates × K on are untouched
---     Turn g k j i             what a turn at template j of copy k may count on: its numbers are small
---     turn-kept                each turn may
---     writing-none             before the first turn
---     writing-more             a turn writes place i, and goes on to the next template or to the first one of the next copy
---     writing-done             after the last turn all rules are written
+--     rule-at                         a place that holds the four numbers of a template's rule holds its instance
+--     same-rule                       a place that is left alone holds what it held
+--     RulesWriting g K … i k j        the places before i = k × templates + j are written, those from templates × K on are untouched
+--     TemplateTurn g k j i            what a turn at template j of copy k may count on: its numbers are small
+--     turn-kept                       each turn may
+--     writing-none                    before the first turn
+--     writing-more                    a turn writes place i, and goes on to the next template or to the first one of the next copy
+--     writing-done                    after the last turn all rules are written
 --     lists-refused, lists-written    what `unfold` promises of the lists
 -- Assumes nothing.
 use mathlib.Core.Path.{_≡_, refl, sym, _∙_, ap, subst, subst₂}
@@ -18,23 +18,23 @@ use native.Mathlib.Omega.{arith}
 use lib.IntN.{ℤ, pos}
 use lib.ListN.{length, getD, take, drop, set, length-set}
 use lib.Seq.{getD-set-same, getD-set-other, drop-set-lt, getD-take, length-take-le}
-use Rattle.graphs.specs.Graph as Event
+use Rattle.graphs.specs.Graph as rule
 use Rattle.graphs.specs.Graph.{Graph, graphOf}
 use Rattle.faults.specs.Faults.{EndsKnown}
 use Rattle.processes.specs.declared.Unfolded.{Unfolded}
 use Rattle.processes.specs.Process.{ProcessGraph, templates, source, target, least, most, mark, occurrence, Node, root, at, Instance, together, onward, start}
-use Rattle.processes.specs.Unfolding.{RuleAt, Unfolds, Written}
-use Rattle.processes.specs.Checks.{CountsKept, MarkKept, ProcessKept}
-use Rattle.processes.specs.Writing.{SourceAt, DelayAt, RuleWritten, RulesWritten}
+use Rattle.processes.specs.Unfolding.{RuleAt, Unfolds, UnfoldingWritten}
+use Rattle.processes.specs.Inner.Checks.{ProcessCountsKept, MarkKept, ProcessKept}
+use Rattle.processes.specs.Inner.Writing.{InstanceSource, InstanceDelay, InstanceWritten, InstancesWritten}
 use Rattle.processes.proofs.Products.{many, some-factor, copy-below, rule-below, same-copy}
 
 module _ {g : ProcessGraph} {k j : ℕ} where
   -- by the three cases of 01
   pub rule-at : (G : Graph) (i : ℕ) →
-      SourceAt (g .events) k (mark g j) (source g j .0) (Event.source G i) →
-      Event.target G i ≡ occurrence g k (target g j) .0 →
-      DelayAt k (mark g j) (least g j) (Event.least G i) →
-      DelayAt k (mark g j) (most g j) (Event.most G i) →
+      InstanceSource (g .events) k (mark g j) (source g j .0) (rule.source G i) →
+      rule.target G i ≡ occurrence g k (target g j) .0 →
+      InstanceDelay k (mark g j) (least g j) (rule.least G i) →
+      InstanceDelay k (mark g j) (most g j) (rule.most G i) →
       MarkKept (g .marks) j →
       RuleAt g k j G i
   rule-at G i s t d D (inl e) =
@@ -67,10 +67,10 @@ module _ {g : ProcessGraph} {k j : ℕ} where
           }
 
   pub same-rule : (G G′ : Graph) (i : ℕ) →
-      Event.source G′ i ≡ Event.source G i →
-      Event.target G′ i ≡ Event.target G i →
-      Event.least G′ i ≡ Event.least G i →
-      Event.most G′ i ≡ Event.most G i →
+      rule.source G′ i ≡ rule.source G i →
+      rule.target G′ i ≡ rule.target G i →
+      rule.least G′ i ≡ rule.least G i →
+      rule.most G′ i ≡ rule.most G i →
       RuleAt g k j G i →
       RuleAt g k j G′ i
   same-rule G G′ i s t d D r =
@@ -82,7 +82,7 @@ module _ {g : ProcessGraph} {k j : ℕ} where
         instance = subst₂ (Instance g k j (r .from) (r .to)) (sym d) (sym D) (r .instance);
       }
 
-pub record Writing (g : ProcessGraph) (K : ℕ) (ss₀ ts₀ : List ℕ) (ds₀ Ds₀ : List ℤ) (ss ts : List ℕ) (ds Ds : List ℤ) (i k j : ℕ) : Type 0 where
+pub record RulesWriting (g : ProcessGraph) (K : ℕ) (ss₀ ts₀ : List ℕ) (ds₀ Ds₀ : List ℤ) (ss ts : List ℕ) (ds Ds : List ℤ) (i k j : ℕ) : Type 0 where
   pub within : i ≤ templates g * K
   pub place : i ≡ k * templates g + j
   pub template : 0 < templates g → j < templates g
@@ -96,7 +96,7 @@ pub record Writing (g : ProcessGraph) (K : ℕ) (ss₀ ts₀ : List ℕ) (ds₀ 
   pub leasts-length : length ds ≡ length ds₀
   pub mosts-length : length Ds ≡ length Ds₀
 
-pub record Turn (g : ProcessGraph) (k j i : ℕ) : Type 0 where
+pub record TemplateTurn (g : ProcessGraph) (k j i : ℕ) : Type 0 where
   pub few-templates : templates g ≤ 4096
   pub is-template : j < templates g
   pub copy-small : k < 1024
@@ -107,14 +107,14 @@ pub record Turn (g : ProcessGraph) (k j i : ℕ) : Type 0 where
 
 pub turn-kept : {g : ProcessGraph} {K n : ℕ} {ss₀ ts₀ : List ℕ} {ds₀ Ds₀ : List ℤ} {ss ts : List ℕ} {ds Ds : List ℤ} {i k j : ℕ} →
     ProcessKept g K n →
-    Writing g K ss₀ ts₀ ds₀ Ds₀ ss ts ds Ds i k j →
+    RulesWriting g K ss₀ ts₀ ds₀ Ds₀ ss ts ds Ds i k j →
     i < templates g * K →
-    Turn g k j i
+    TemplateTurn g k j i
 turn-kept {g} {K} {i = i} {k = k} {j = j} kept w l =
     let lj : j < templates g = w .template (some-factor (templates g) K i l) in
     let lk : k < K = copy-below (templates g) K k j (omega arith) in
     let known : EndsKnown (g .events) (g .sources) (g .targets) j = kept .known j lj in
-    let counts : CountsKept g K = kept .counts in
+    let counts : ProcessCountsKept g K = kept .counts in
     record {
       few-templates = omega (arith, many (templates g) K (counts .some-copy), counts .few-rules);
       is-template = lj;
@@ -145,7 +145,7 @@ moved {g} {G} {k} {j} {i} k′ j′ ek ej ei r =
     (subst (λ (x : ℕ). RuleAt g x j′ G i) (sym ek) (subst (λ (x : ℕ). RuleAt g k x G i) (sym ej) r))
 
 module _ {g : ProcessGraph} {K : ℕ} {ss₀ ts₀ : List ℕ} {ds₀ Ds₀ : List ℤ} where
-  pub writing-none : Writing g K ss₀ ts₀ ds₀ Ds₀ ss₀ ts₀ ds₀ Ds₀ 0 0 0
+  pub writing-none : RulesWriting g K ss₀ ts₀ ds₀ Ds₀ ss₀ ts₀ ds₀ Ds₀ 0 0 0
   writing-none =
       record {
         within = zero-le;
@@ -164,27 +164,27 @@ module _ {g : ProcessGraph} {K : ℕ} {ss₀ ts₀ : List ℕ} {ds₀ Ds₀ : Li
 
   module _ (room : (templates g * K ≤ length ss₀) × (templates g * K ≤ length ts₀) × (templates g * K ≤ length ds₀) × (templates g * K ≤ length Ds₀)) {ss ts : List ℕ} {ds Ds : List ℤ} {ss′ ts′ : List ℕ} {ds′ Ds′ : List ℤ} {i k j : ℕ} where
     -- the place that the turn writes
-    written-here : Writing g K ss₀ ts₀ ds₀ Ds₀ ss ts ds Ds i k j → i < templates g * K →
-        RuleWritten g k j i ss ts ds Ds ss′ ts′ ds′ Ds′ →
+    written-here : RulesWriting g K ss₀ ts₀ ds₀ Ds₀ ss ts ds Ds i k j → i < templates g * K →
+        InstanceWritten g k j i ss ts ds Ds ss′ ts′ ds′ Ds′ →
         MarkKept (g .marks) j →
         RuleAt g k j (graphOf (1 + g .events * K) ss′ ts′ ds′ Ds′) i
     written-here w l r m =
         rule-at
         (graphOf (1 + g .events * K) ss′ ts′ ds′ Ds′)
         i
-        (subst (SourceAt (g .events) k (mark g j) (source g j .0)) (sym (put-here ss ss′ i (r .s) (r .sources-set) 0 (omega arith))) (r .source-at))
+        (subst (InstanceSource (g .events) k (mark g j) (source g j .0)) (sym (put-here ss ss′ i (r .s) (r .sources-set) 0 (omega arith))) (r .source-at))
         (put-here ts ts′ i (r .t) (r .targets-set) 0 (omega arith) ∙ r .target-at)
-        (subst (DelayAt k (mark g j) (least g j)) (sym (put-here ds ds′ i (r .d) (r .leasts-set) (pos 0) (omega arith))) (r .least-at))
-        (subst (DelayAt k (mark g j) (most g j)) (sym (put-here Ds Ds′ i (r .D) (r .mosts-set) (pos 0) (omega arith))) (r .most-at))
+        (subst (InstanceDelay k (mark g j) (least g j)) (sym (put-here ds ds′ i (r .d) (r .leasts-set) (pos 0) (omega arith))) (r .least-at))
+        (subst (InstanceDelay k (mark g j) (most g j)) (sym (put-here Ds Ds′ i (r .D) (r .mosts-set) (pos 0) (omega arith))) (r .most-at))
         m
 
-    pub writing-more : Writing g K ss₀ ts₀ ds₀ Ds₀ ss ts ds Ds i k j →
+    pub writing-more : RulesWriting g K ss₀ ts₀ ds₀ Ds₀ ss ts ds Ds i k j →
         i < templates g * K →
         j < templates g →
-        RuleWritten g k j i ss ts ds Ds ss′ ts′ ds′ Ds′ →
+        InstanceWritten g k j i ss ts ds Ds ss′ ts′ ds′ Ds′ →
         MarkKept (g .marks) j →
         (k⁺ j⁺ : ℕ) → i + 1 ≡ k⁺ * templates g + j⁺ → j⁺ < templates g →
-        Writing g K ss₀ ts₀ ds₀ Ds₀ ss′ ts′ ds′ Ds′ (i + 1) k⁺ j⁺
+        RulesWriting g K ss₀ ts₀ ds₀ Ds₀ ss′ ts′ ds′ Ds′ (i + 1) k⁺ j⁺
     writing-more w l lj r m k⁺ j⁺ e h =
         record {
           within = omega arith;
@@ -222,7 +222,7 @@ module _ {g : ProcessGraph} {K : ℕ} {ss₀ ts₀ : List ℕ} {ds₀ Ds₀ : Li
                 let ej : j′ ≡ j = omega (arith, ap (λ (x : ℕ). x * templates g) ek) in
                 moved k′ j′ ek ej here (written-here w l r m)
 
-  pub writing-done : {ss ts : List ℕ} {ds Ds : List ℤ} {i k j : ℕ} → Writing g K ss₀ ts₀ ds₀ Ds₀ ss ts ds Ds i k j → templates g * K ≤ i → RulesWritten g K ss₀ ts₀ ds₀ Ds₀ ss ts ds Ds
+  pub writing-done : {ss ts : List ℕ} {ds Ds : List ℤ} {i k j : ℕ} → RulesWriting g K ss₀ ts₀ ds₀ Ds₀ ss ts ds Ds i k j → templates g * K ≤ i → InstancesWritten g K ss₀ ts₀ ds₀ Ds₀ ss ts ds Ds
   writing-done w l =
       record {
         each = λ k′ j′ lk lj. w .each k′ j′ lj (omega (arith, rule-below (templates g) K k′ j′ lk lj));
@@ -235,7 +235,7 @@ module _ {g : ProcessGraph} {K : ℕ} {ss₀ ts₀ : List ℕ} {ds₀ Ds₀ : Li
 
   -- ---- what unfold promises of the lists
 
-  pub lists-refused : {a : Unfolded} → (a .refusal ≡ 0 → ⊥) → Written g K a ss₀ ts₀ ds₀ Ds₀ ss₀ ts₀ ds₀ Ds₀
+  pub lists-refused : {a : Unfolded} → (a .refusal ≡ 0 → ⊥) → UnfoldingWritten g K a ss₀ ts₀ ds₀ Ds₀ ss₀ ts₀ ds₀ Ds₀
   lists-refused n =
       record {
         unfolds = λ e. absurd (n e);
@@ -251,7 +251,7 @@ module _ {g : ProcessGraph} {K : ℕ} {ss₀ ts₀ : List ℕ} {ds₀ Ds₀ : Li
       }
 
   module _ (room : (templates g * K ≤ length ss₀) × (templates g * K ≤ length ts₀) × (templates g * K ≤ length ds₀) × (templates g * K ≤ length Ds₀)) {ss ts : List ℕ} {ds Ds : List ℤ} where
-    unfolded : RulesWritten g K ss₀ ts₀ ds₀ Ds₀ ss ts ds Ds →
+    unfolded : InstancesWritten g K ss₀ ts₀ ds₀ Ds₀ ss ts ds Ds →
         Unfolds g K (graphOf (1 + g .events * K) (take (templates g * K) ss) (take (templates g * K) ts) (take (templates g * K) ds) (take (templates g * K) Ds))
     unfolded w =
         record {
@@ -274,7 +274,7 @@ module _ {g : ProcessGraph} {K : ℕ} {ss₀ ts₀ : List ℕ} {ds₀ Ds₀ : Li
               (w .each k j lk lj);
         }
 
-    pub lists-written : {a : Unfolded} → a .refusal ≡ 0 → RulesWritten g K ss₀ ts₀ ds₀ Ds₀ ss ts ds Ds → Written g K a ss₀ ts₀ ds₀ Ds₀ ss ts ds Ds
+    pub lists-written : {a : Unfolded} → a .refusal ≡ 0 → InstancesWritten g K ss₀ ts₀ ds₀ Ds₀ ss ts ds Ds → UnfoldingWritten g K a ss₀ ts₀ ds₀ Ds₀ ss ts ds Ds
     lists-written z w =
         record {
           unfolds = λ _. unfolded w;

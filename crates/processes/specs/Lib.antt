@@ -2,5 +2,4 @@
 pub mod Process
 pub mod Ways
 pub mod Unfolding
-pub mod Checks
-pub mod Writing
+pub mod Inner

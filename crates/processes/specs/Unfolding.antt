@@ -1,50 +1,52 @@
 -- The promise of the unfolding. Document 01, sections "Process graphs and their unfolding" and "Refusal numbers"; demand 2, last sentence.
---     CountsOutside g K        == refusal 1 of the process graph: a count is outside its limits, or the template lists differ in length
---     ShortLists …             == refusal 1 of the lent lists: one has fewer than templates × K places
---     UnknownEvent g j         == refusal 2: template j names an event that doesn't exist
---     DelayOutside g j         == refusal 3: a delay of template j is out of range, or d > D
---     MarkOutside g j          == refusal 7: the offset mark of template j is neither 0 nor 1
---     Verdict g K Short        == the refusals 1, 2, 3, 7, in 01's order
---     RuleAt g k j graph i     == rule i of the graph is the instance of template j at k
---     Unfolds g K graph        == the graph holds exactly the occurrences and rules of the unfolding, in 01's order
---     Answered g K Short a     == a is the answer: the verdict's number and place, and both counts where nothing is refused
---     Written g K a olds news  == what the four lent lists hold after
+--     ProcessCountsOutside g K         == refusal 1 of the process graph: a count is outside its limits, or the template lists differ in length
+--     ShortRuleLists …                 == refusal 1 of the lent lists: one has fewer than templates × K places
+--     UnknownTemplateEvent g j         == refusal 2: template j names an event that doesn't exist
+--     TemplateDelayOutside g j         == refusal 3: a delay of template j is out of range, or d > D
+--     MarkOutside g j                  == refusal 7: the offset mark of template j is neither 0 nor 1
+--     processChecks g K Short          == the refusals 1, 2, 3, 7, in 01's order
+--     UnfoldingVerdict g K Short       == the first of them that applies
+--     RuleAt g k j graph i             == rule i of the graph is the instance of template j at k
+--     Unfolds g K graph                == the graph holds exactly the occurrences and rules of the unfolding, in 01's order
+--     UnfoldingAnswered g K Short a    == a is the answer: the verdict's number and place, and both counts where nothing is refused
+--     UnfoldingWritten g K a olds news == what the four lent lists hold after
 -- Assumes nothing.
 use mathlib.Core.Path.{_≡_}
 use mathlib.Core.Logic.{_⊎_}
-use mathlib.Core.List.{List}
+use mathlib.Core.List.{List, [], _∷_}
 use Prim.Native.Nat.{ℕ, _+_, _*_, _<_, _≤_}
 use lib.IntN.{ℤ}
 use lib.ListN.{length, take, drop}
-use Rattle.graphs.specs.Graph as Event
+use Rattle.graphs.specs.Graph as rule
 use Rattle.graphs.specs.Graph.{Graph, graphOf}
-use Rattle.graphs.specs.Refusal.{First, Accepted, AtZero, Lowest, OutsideDelays}
+use Rattle.verdicts.specs.Verdict.{Check, check, FirstOf, AtZero, Lowest}
+use Rattle.graphs.specs.Refusal.{OutsideDelays}
 use Rattle.processes.specs.declared.Unfolded.{Unfolded}
 use Rattle.processes.specs.Process.{ProcessGraph, templates, source, target, least, most, mark, Node, number, Instance}
 
 -- "a count is outside its limits, the … template lists differ in length"; "p ≥ 1", "K ≥ 1", "1 + p × K ≤ 1,024 and templates × K ≤ 4,096"
-pub data CountsOutside (g : ProcessGraph) (K : ℕ) : Type 0 where
-  no-events : g .events ≡ 0 → CountsOutside g K
-  no-copies : K ≡ 0 → CountsOutside g K
-  many-occurrences : 1024 < 1 + g .events * K → CountsOutside g K
-  many-rules : 4096 < templates g * K → CountsOutside g K
-  targets-differ : (length (g .targets) ≡ templates g → ⊥) → CountsOutside g K
-  leasts-differ : (length (g .leasts) ≡ templates g → ⊥) → CountsOutside g K
-  mosts-differ : (length (g .mosts) ≡ templates g → ⊥) → CountsOutside g K
-  marks-differ : (length (g .marks) ≡ templates g → ⊥) → CountsOutside g K
+pub data ProcessCountsOutside (g : ProcessGraph) (K : ℕ) : Type 0 where
+  no-events : g .events ≡ 0 → ProcessCountsOutside g K
+  no-copies : K ≡ 0 → ProcessCountsOutside g K
+  many-occurrences : 1024 < 1 + g .events * K → ProcessCountsOutside g K
+  many-rules : 4096 < templates g * K → ProcessCountsOutside g K
+  targets-differ : (length (g .targets) ≡ templates g → ⊥) → ProcessCountsOutside g K
+  leasts-differ : (length (g .leasts) ≡ templates g → ⊥) → ProcessCountsOutside g K
+  mosts-differ : (length (g .mosts) ≡ templates g → ⊥) → ProcessCountsOutside g K
+  marks-differ : (length (g .marks) ≡ templates g → ⊥) → ProcessCountsOutside g K
 
 -- "each of the four output lists needs that many places"
-pub data ShortLists (g : ProcessGraph) (K : ℕ) (ss ts : List ℕ) (ds Ds : List ℤ) : Type 0 where
-  short-sources : length ss < templates g * K → ShortLists g K ss ts ds Ds
-  short-targets : length ts < templates g * K → ShortLists g K ss ts ds Ds
-  short-leasts : length ds < templates g * K → ShortLists g K ss ts ds Ds
-  short-mosts : length Ds < templates g * K → ShortLists g K ss ts ds Ds
+pub data ShortRuleLists (g : ProcessGraph) (K : ℕ) (ss ts : List ℕ) (ds Ds : List ℤ) : Type 0 where
+  short-sources : length ss < templates g * K → ShortRuleLists g K ss ts ds Ds
+  short-targets : length ts < templates g * K → ShortRuleLists g K ss ts ds Ds
+  short-leasts : length ds < templates g * K → ShortRuleLists g K ss ts ds Ds
+  short-mosts : length Ds < templates g * K → ShortRuleLists g K ss ts ds Ds
 
-pub record UnknownEvent (g : ProcessGraph) (j : ℕ) : Type 0 where
+pub record UnknownTemplateEvent (g : ProcessGraph) (j : ℕ) : Type 0 where
   pub is-template : j < templates g
   pub unknown : (g .events ≤ source g j .0) ⊎ (g .events ≤ target g j .0)
 
-pub record DelayOutside (g : ProcessGraph) (j : ℕ) : Type 0 where
+pub record TemplateDelayOutside (g : ProcessGraph) (j : ℕ) : Type 0 where
   pub is-template : j < templates g
   pub outside : OutsideDelays (least g j) (most g j)
 
@@ -54,18 +56,20 @@ pub record MarkOutside (g : ProcessGraph) (j : ℕ) : Type 0 where
   pub not-one : mark g j ≡ 1 → ⊥
 
 -- "unfolding 1, 2, 3, 7"
-abbrev pub Verdict : ProcessGraph → ℕ → Type 0 → ℕ → ℕ → Type 0
-Verdict g K Short =
-    First 1 (AtZero (CountsOutside g K ⊎ Short))
-    (First 2 (Lowest (UnknownEvent g)) (First 3 (Lowest (DelayOutside g)) (First 7 (Lowest (MarkOutside g)) Accepted)))
+abbrev pub processChecks : ProcessGraph → ℕ → Type 0 → List Check
+processChecks g K Short =
+    check 1 (AtZero (ProcessCountsOutside g K ⊎ Short)) ∷ check 2 (Lowest (UnknownTemplateEvent g)) ∷ check 3 (Lowest (TemplateDelayOutside g)) ∷ check 7 (Lowest (MarkOutside g)) ∷ []
+
+abbrev pub UnfoldingVerdict : ProcessGraph → ℕ → Type 0 → ℕ → ℕ → Type 0
+UnfoldingVerdict g K Short = FirstOf (processChecks g K Short)
 
 -- rule i is the instance of template j at k
 pub record RuleAt (g : ProcessGraph) (k j : ℕ) (graph : Graph) (i : ℕ) : Type 0 where
   pub from : Node
   pub to : Node
-  pub from-number : Event.source graph i ≡ number from
-  pub to-number : Event.target graph i ≡ number to
-  pub instance : Instance g k j from to (Event.least graph i) (Event.most graph i)
+  pub from-number : rule.source graph i ≡ number from
+  pub to-number : rule.target graph i ≡ number to
+  pub instance : Instance g k j from to (rule.least graph i) (rule.most graph i)
 
 -- "Rules are written for k = 0, then 1, and so on; within one k, one rule per template in template order": template j at k is rule k × templates + j
 pub record Unfolds (g : ProcessGraph) (K : ℕ) (graph : Graph) : Type 0 where
@@ -77,15 +81,15 @@ pub record Unfolds (g : ProcessGraph) (K : ℕ) (graph : Graph) : Type 0 where
   pub each : (k j : ℕ) → k < K → j < templates g → RuleAt g k j graph (k * templates g + j)
 
 -- "The answer carries the event count 1 + p × K and the rule count, both 0 when refused"
-pub record Answered (g : ProcessGraph) (K : ℕ) (Short : Type 0) (a : Unfolded) : Type 0 where
-  pub verdict : Verdict g K Short (a .refusal) (a .place)
+pub record UnfoldingAnswered (g : ProcessGraph) (K : ℕ) (Short : Type 0) (a : Unfolded) : Type 0 where
+  pub verdict : UnfoldingVerdict g K Short (a .refusal) (a .place)
   pub event-count : a .refusal ≡ 0 → a .events ≡ 1 + g .events * K
   pub rule-count : a .refusal ≡ 0 → a .rules ≡ templates g * K
   pub no-events : (a .refusal ≡ 0 → ⊥) → a .events ≡ 0
   pub no-rules : (a .refusal ≡ 0 → ⊥) → a .rules ≡ 0
 
 -- "places beyond keep what they held"; refused, "every lent list keeps its contents"
-pub record Written (g : ProcessGraph) (K : ℕ) (a : Unfolded) (ss₀ ts₀ : List ℕ) (ds₀ Ds₀ : List ℤ) (ss ts : List ℕ) (ds Ds : List ℤ) : Type 0 where
+pub record UnfoldingWritten (g : ProcessGraph) (K : ℕ) (a : Unfolded) (ss₀ ts₀ : List ℕ) (ds₀ Ds₀ : List ℤ) (ss ts : List ℕ) (ds Ds : List ℤ) : Type 0 where
   pub unfolds :
       a .refusal ≡ 0 →
       Unfolds g K

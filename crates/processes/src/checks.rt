@@ -1,8 +1,8 @@
 // The checks on a process graph that are this crate's own: the counts and the offset marks.
 ghost use lib.ListN.{length};
-ghost use Rattle.faults.specs.Faults.{LowestOr};
+ghost use Rattle.verdicts.specs.Verdict.{LowestOr};
 ghost use Rattle.processes.specs.Process.{processOf};
-ghost use Rattle.processes.specs.Checks.{CountsChecked, MarkKept, MarkBroken};
+ghost use Rattle.processes.specs.Inner.Checks.{ProcessCountsChecked, MarkKept, MarkBroken};
 
 const MAX_EVENTS: usize = 1024;
 
@@ -18,7 +18,7 @@ pub(crate) fn counts_kept(
     mosts: &[i64],
     marks: &[usize],
 ) -> bool
-    ensures { λ r. ⌜ CountsChecked (processOf p (now (sources .entry)) (now (targets .entry)) (now (leasts .entry)) (now (mosts .entry)) (now (marks .entry))) copies r ⌝ }
+    ensures { λ r. ⌜ ProcessCountsChecked (processOf p (now (sources .entry)) (now (targets .entry)) (now (leasts .entry)) (now (mosts .entry)) (now (marks .entry))) copies r ⌝ }
 {
     if p == 0 {
         return false;

@@ -2,7 +2,7 @@
 //     unfold    K occurrences of each process event, and the rules between them, written into four lent lists
 // No caller is trusted: every list, length and number gets an answer. The promise is in specs/Unfolding.antt.
 ghost use Rattle.processes.specs.Process.{processOf};
-ghost use Rattle.processes.specs.Unfolding.{Answered, ShortLists, Written};
+ghost use Rattle.processes.specs.Unfolding.{UnfoldingAnswered, ShortRuleLists, UnfoldingWritten};
 
 mod checks;
 mod input;
@@ -41,8 +41,8 @@ pub fn unfold(
     out_leasts: &mut [i64],
     out_mosts: &mut [i64],
 ) -> Unfolded
-    ensures { λ r. ⌜ Answered (processOf p (now (sources .entry)) (now (targets .entry)) (now (leasts .entry)) (now (mosts .entry)) (now (marks .entry))) copies (ShortLists (processOf p (now (sources .entry)) (now (targets .entry)) (now (leasts .entry)) (now (mosts .entry)) (now (marks .entry))) copies (now («out_sources» .entry)) (now («out_targets» .entry)) (now («out_leasts» .entry)) (now («out_mosts» .entry))) r ⌝ }
-    ensures { λ r. ⌜ Written (processOf p (now (sources .entry)) (now (targets .entry)) (now (leasts .entry)) (now (mosts .entry)) (now (marks .entry))) copies r (now («out_sources» .entry)) (now («out_targets» .entry)) (now («out_leasts» .entry)) (now («out_mosts» .entry)) (now («out_sources» .exit)) (now («out_targets» .exit)) (now («out_leasts» .exit)) (now («out_mosts» .exit)) ⌝ }
+    ensures { λ r. ⌜ UnfoldingAnswered (processOf p (now (sources .entry)) (now (targets .entry)) (now (leasts .entry)) (now (mosts .entry)) (now (marks .entry))) copies (ShortRuleLists (processOf p (now (sources .entry)) (now (targets .entry)) (now (leasts .entry)) (now (mosts .entry)) (now (marks .entry))) copies (now («out_sources» .entry)) (now («out_targets» .entry)) (now («out_leasts» .entry)) (now («out_mosts» .entry))) r ⌝ }
+    ensures { λ r. ⌜ UnfoldingWritten (processOf p (now (sources .entry)) (now (targets .entry)) (now (leasts .entry)) (now (mosts .entry)) (now (marks .entry))) copies r (now («out_sources» .entry)) (now («out_targets» .entry)) (now («out_leasts» .entry)) (now («out_mosts» .entry)) (now («out_sources» .exit)) (now («out_targets» .exit)) (now («out_leasts» .exit)) (now («out_mosts» .exit)) ⌝ }
 {
     let places = fewest(
         out_sources.len(),

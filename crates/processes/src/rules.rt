@@ -3,8 +3,8 @@ ghost use mathlib.Core.Path.{_≡_};
 ghost use Prim.Native.Nat.{ℕ, _+_, _*_, _<_, _≤_};
 ghost use lib.ListN.{length, getD};
 ghost use Rattle.processes.specs.Process.{processOf};
-ghost use Rattle.processes.specs.Checks.{ProcessKept};
-ghost use Rattle.processes.specs.Writing.{SourceAt, DelayAt, RuleWritten, RulesWritten};
+ghost use Rattle.processes.specs.Inner.Checks.{ProcessKept};
+ghost use Rattle.processes.specs.Inner.Writing.{InstanceSource, InstanceDelay, InstanceWritten, InstancesWritten};
 use crate::Event;
 use crate::Occurrence;
 
@@ -23,7 +23,7 @@ fn occurrence(p: usize, k: usize, u: Event) -> Occurrence
 // The number of the source of a rule at k: the template's source at k or, marked 1, at k − 1; a start rule has the root.
 fn source_at(p: usize, k: usize, mark: usize, u: Event) -> usize
     requires { ⌜ k * p + u .0 < 1024 ⌝ }
-    ensures { λ r. ⌜ SourceAt p k mark (u .0) r ⌝ }
+    ensures { λ r. ⌜ InstanceSource p k mark (u .0) r ⌝ }
 {
     let same = occurrence(p, k, u);
     let number = same.0;
@@ -39,7 +39,7 @@ fn source_at(p: usize, k: usize, mark: usize, u: Event) -> usize
 
 // A delay of a rule at k: the template's, or 0 in a start rule.
 fn delay_at(k: usize, mark: usize, delay: i64) -> i64
-    ensures { λ r. ⌜ DelayAt k mark delay r ⌝ }
+    ensures { λ r. ⌜ InstanceDelay k mark delay r ⌝ }
 {
     if k > 0 {
         return delay;
@@ -69,7 +69,7 @@ fn write_rule(
     requires { ⌜ (length (now targets) ≡ length (now sources)) × (length (now leasts) ≡ length (now sources)) × (length (now mosts) ≡ length (now sources)) × (length (now marks) ≡ length (now sources)) × (length (now sources) ≤ 4096) × (j < length (now sources)) ⌝ }
     requires { ⌜ (k * p + getD (now sources) j 0 < 1024) × (k * p + getD (now targets) j 0 < 1024) ⌝ }
     requires { ⌜ (i < 4096) × (i < length (now «out_sources»)) × (i < length (now «out_targets»)) × (i < length (now «out_leasts»)) × (i < length (now «out_mosts»)) ⌝ }
-    ensures { λ _. ⌜ RuleWritten (processOf p (now (sources .entry)) (now (targets .entry)) (now (leasts .entry)) (now (mosts .entry)) (now (marks .entry))) k j i (now («out_sources» .entry)) (now («out_targets» .entry)) (now («out_leasts» .entry)) (now («out_mosts» .entry)) (now («out_sources» .exit)) (now («out_targets» .exit)) (now («out_leasts» .exit)) (now («out_mosts» .exit)) ⌝ }
+    ensures { λ _. ⌜ InstanceWritten (processOf p (now (sources .entry)) (now (targets .entry)) (now (leasts .entry)) (now (mosts .entry)) (now (marks .entry))) k j i (now («out_sources» .entry)) (now («out_targets» .entry)) (now («out_leasts» .entry)) (now («out_mosts» .entry)) (now («out_sources» .exit)) (now («out_targets» .exit)) (now («out_leasts» .exit)) (now («out_mosts» .exit)) ⌝ }
 {
     let mark = marks[j];
     let source = sources[j];
@@ -98,7 +98,7 @@ pub(crate) fn write_rules(
 )
     requires { ⌜ ProcessKept (processOf p (now sources) (now targets) (now leasts) (now mosts) (now marks)) copies (length (now sources) * copies) ⌝ }
     requires { ⌜ (length (now sources) * copies ≤ length (now «out_sources»)) × (length (now sources) * copies ≤ length (now «out_targets»)) × (length (now sources) * copies ≤ length (now «out_leasts»)) × (length (now sources) * copies ≤ length (now «out_mosts»)) ⌝ }
-    ensures { λ _. ⌜ RulesWritten (processOf p (now (sources .entry)) (now (targets .entry)) (now (leasts .entry)) (now (mosts .entry)) (now (marks .entry))) copies (now («out_sources» .entry)) (now («out_targets» .entry)) (now («out_leasts» .entry)) (now («out_mosts» .entry)) (now («out_sources» .exit)) (now («out_targets» .exit)) (now («out_leasts» .exit)) (now («out_mosts» .exit)) ⌝ }
+    ensures { λ _. ⌜ InstancesWritten (processOf p (now (sources .entry)) (now (targets .entry)) (now (leasts .entry)) (now (mosts .entry)) (now (marks .entry))) copies (now («out_sources» .entry)) (now («out_targets» .entry)) (now («out_leasts» .entry)) (now («out_mosts» .entry)) (now («out_sources» .exit)) (now («out_targets» .exit)) (now («out_leasts» .exit)) (now («out_mosts» .exit)) ⌝ }
 {
     let templates = sources.len();
     let rules = templates * copies;

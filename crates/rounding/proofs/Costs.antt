@@ -1,6 +1,7 @@
 -- What rounding outward may cost: demand 3, second sentence.
 --     rounded-wider          every interval of the rounded graph holds that of the graph
 --     rounded-near           no delay moves by more than q − 1
+--     rounded-sound          the rounded graph of a sound graph is sound, whatever the step
 --     rounded-sized          the rounded graph keeps the counts, its events exist, and its delays lie within 1,000,999
 --     rounded-event-graph    the rounded graph keeps the rules of an event graph, with delays up to 1,000,999
 --     never-below            a coarse answer is never below the exact one
@@ -19,9 +20,9 @@ use lib.Signed.{_≤ℤ_}
 use lib.ListN.{length}
 use Rattle.integers.specs.Within.{Within}
 use Rattle.integers.proofs.Integer.{linear}
-use Rattle.graphs.specs.Graph.{Graph, rules}
-use Rattle.graphs.specs.Path.{Depth}
-use Rattle.graphs.specs.Limits.{Sized, EventGraph, CountsKept, EndsKept, DelaysKept}
+use Rattle.graphs.specs.Graph.{Graph, rules, least, most}
+use Rattle.graphs.specs.Path.{Depth, HasCycle, Reachable}
+use Rattle.graphs.specs.Limits.{Sized, EventGraph, SoundGraph, CountsKept, EndsKept, DelaysKept}
 use Rattle.executions.specs.Separation.{Separation, SameRules, DelaysNear}
 use Rattle.executions.proofs.Nearness.{maxima-near}
 use Rattle.executions.proofs.Same.{rules-same, source-same, target-same, same-exchanged, same-joined, path-same, cycle-same}
@@ -57,30 +58,51 @@ module _ {q : ℕ} {g h : Graph} (rounded : Rounded q g h) where
   pub never-below : {s t : ℕ} {x y : ℤ} → Separation g s t x → Separation h s t y → x ≤ℤ y
   never-below = widening-never-lowers rounded-wider
 
--- ---- the rounded graph is an event graph
+  -- ---- the rounded graph is sound
 
-module _ {q : ℕ} {g h : Graph} (sized : Sized 1000000 g) (small : q ≤ 1000) (rounded : Rounded q g h) where
   same : SameRules g h
   same = rounded .same
 
+  ends : ((i : ℕ) → i < rules g → EndsKept g i) → (i : ℕ) → i < rules h → EndsKept h i
+  ends known i l =
+      let k = known i (rule-before l) in
+      record {
+        source-known = omega (arith, k .source-known, source-same same i, same .events-same);
+        target-known = omega (arith, k .target-known, target-same same i, same .events-same);
+      }
+
+  ordered : {i : ℕ} → i < rules g → least g i ≤ℤ most g i → least h i ≤ℤ most h i
+  ordered {i} r le = omega (linear, le, rounded .down i r .not-above, rounded .up i r .not-below)
+
+  acyclic : (HasCycle g → ⊥) → HasCycle h → ⊥
+  acyclic none c = none (cycle-same same c)
+
+  reachable : ((v : ℕ) → v < g .events → Reachable g v) → (v : ℕ) → v < h .events → Reachable h v
+  reachable each v l = path-same (same-exchanged same) (each v (omega (arith, l, same .events-same))) .0
+
+  pub rounded-sound : SoundGraph g → SoundGraph h
+  rounded-sound sound =
+      record {
+        some-event = omega (arith, sound .some-event, same .events-same);
+        ends = ends (sound .ends);
+        ordered = λ i l. ordered (rule-before l) (sound .ordered i (rule-before l));
+        acyclic = acyclic (sound .acyclic);
+        reachable = reachable (sound .reachable);
+      }
+
+-- ---- and an event graph
+
+module _ {q : ℕ} {g h : Graph} (sized : Sized 1000000 g) (small : q ≤ 1000) (rounded : Rounded q g h) where
   counts : CountsKept h
   counts =
       let k = sized .counts in
       record {
-        some-event = omega (arith, k .some-event, same .events-same);
-        few-events = omega (arith, k .few-events, same .events-same);
+        some-event = omega (arith, k .some-event, rounded .same .events-same);
+        few-events = omega (arith, k .few-events, rounded .same .events-same);
         few-rules = omega (arith, k .few-rules, as-many rounded);
-        targets-match = omega (arith, k .targets-match, as-many rounded, ap length (same .targets-same));
+        targets-match = omega (arith, k .targets-match, as-many rounded, ap length (rounded .same .targets-same));
         leasts-match = omega (arith, k .leasts-match, as-many rounded, rounded .as-many-leasts);
         mosts-match = omega (arith, k .mosts-match, as-many rounded, rounded .as-many-mosts);
-      }
-
-  ends : (i : ℕ) → i < rules h → EndsKept h i
-  ends i l =
-      let k = sized .ends i (rule-before rounded l) in
-      record {
-        source-known = omega (arith, k .source-known, source-same same i, same .events-same);
-        target-known = omega (arith, k .target-known, target-same same i, same .events-same);
       }
 
   delays : (i : ℕ) → i < rules h → DelaysKept 1000999 h i
@@ -90,33 +112,29 @@ module _ {q : ℕ} {g h : Graph} (sized : Sized 1000000 g) (small : q ≤ 1000) 
       record {
         least-within = down-within small (k .least-within) (rounded .down i r);
         most-within = up-within small (k .most-within) (rounded .up i r);
-        ordered = omega (linear, k .ordered, rounded .down i r .not-above, rounded .up i r .not-below);
+        ordered = ordered rounded r (k .ordered);
       }
 
   pub rounded-sized : Sized 1000999 h
-  rounded-sized = record { counts = counts; ends = ends; delays = delays }
+  rounded-sized = record { counts = counts; ends = ends rounded (sized .ends); delays = delays }
 
 pub rounded-event-graph : {q : ℕ} {g h : Graph} → EventGraph 1000000 g → q ≤ 1000 → Rounded q g h → EventGraph 1000999 h
 rounded-event-graph eg small rounded =
-    let same = rounded .same in
-    record {
-      sized = rounded-sized (eg .sized) small rounded;
-      acyclic = λ c. eg .acyclic (cycle-same same c);
-      reachable = λ v l. path-same (same-exchanged same) (eg .reachable v (omega (arith, l, same .events-same))) .0;
-    }
+    record { sized = rounded-sized (eg .sized) small rounded; acyclic = acyclic rounded (eg .acyclic); reachable = reachable rounded (eg .reachable) }
 
 -- ---- demand 3, second sentence
 
-module _ {q : ℕ} {g : Graph} (eg : EventGraph 1000000 g) (small : q ≤ 1000) {s t : ℕ} (hs : s < g .events) (ht : t < g .events) where
+module _ {q : ℕ} {g : Graph} (sound : SoundGraph g) {s t : ℕ} (hs : s < g .events) (ht : t < g .events) where
   pub costs-at-most : {a d : ℕ} {x y : ℤ} → Depth g s a → Depth g t d → Separation g s t x → CoarseSeparation q g s t y → Costs q a d x y
   costs-at-most da dd exact coarse =
       let r = coarse .rounded in
       record {
         never-below-exact = never-below r exact (coarse .greatest);
         at-most-above =
-            maxima-near eg (rounded-event-graph eg small r) (r .same) (q - 1) (rounded-near r) hs ht da dd exact (coarse .greatest) .not-below;
+            maxima-near sound (rounded-sound r sound) (r .same) (q - 1) (rounded-near r) hs ht da dd exact (coarse .greatest) .not-below;
       }
 
+module _ {q : ℕ} {g : Graph} (eg : EventGraph 1000000 g) (small : q ≤ 1000) {s t : ℕ} (hs : s < g .events) (ht : t < g .events) where
   -- "A coarse one stays within 2,048,043,954 either side of zero"
   pub coarse-size : {y : ℤ} → CoarseSeparation q g s t y → Within 2048043954 y
   coarse-size coarse =

@@ -9,25 +9,31 @@
 -- Assumes nothing.
 use mathlib.Core.Path.{_≡_, sym, _∙_}
 use mathlib.Core.Logic.{_↔_}
+use mathlib.Core.List.{[], _∷_}
 use Prim.Native.Nat.{ℕ, _<_, _≤_}
 use native.Mathlib.Omega.{arith}
 use lib.IntN.{ℤ}
 use Rattle.integers.specs.Within.{Within}
 use Rattle.graphs.specs.Graph.{Graph}
 use Rattle.graphs.specs.Limits.{EventGraph}
-use Rattle.graphs.specs.Refusal.{First, given, passed}
-use Rattle.graphs.proofs.Unique.{depth-unique, first-unique}
+use Rattle.verdicts.specs.Verdict.{check, passed, FirstOf}
+use Rattle.verdicts.proofs.Verdicts.{then-unique, one-verdict, then-more, rest-of}
+use Rattle.graphs.specs.Refusal.{questionChecks, pathChecks}
+use Rattle.graphs.proofs.Refusals.{question-places, path-places}
+use Rattle.graphs.proofs.Unique.{depth-unique}
 use Rattle.executions.specs.Separation.{Separation}
 use Rattle.rounding.specs.Rounding.{Costs}
+use Rattle.graphs.proofs.Limits.{sound-of}
 use Rattle.rounding.proofs.Costs.{costs-at-most, coarse-size, coarse-unique, step-one}
 use Rattle.separation.specs.declared.Answer.{Answer}
 use Rattle.separation.specs.Promise.{InputVerdict, PathVerdict, Answered}
 use Rattle.separation.specs.Coarse.{StepOutside, CoarseVerdict, CoarseAnswered}
-use Rattle.separation.proofs.Verdicts.{first-more, input-passed, input-unique, path-0, path-unique, step-kept}
+use Rattle.separation.proofs.Verdicts.{input-passed, path-0, step-places, step-kept}
 use Rattle.separation.proofs.Promises.{answered-exactly, answers-agree}
 
 coarse-verdict-unique : {g : Graph} {r s t : ℕ} {i p j q : ℕ} → CoarseVerdict g r s t i p → CoarseVerdict g r s t j q → (i ≡ j) × (p ≡ q)
-coarse-verdict-unique = input-unique (λ i p j q. first-unique (λ p q a b. a .its-place ∙ sym (b .its-place)) (λ i p j q. path-unique))
+coarse-verdict-unique {g} {r} {s} {t} {i} {p} {j} {q} v w =
+    then-unique (questionChecks g s t ⊥) (question-places g s t ⊥) (one-verdict (check 9 (StepOutside r) ∷ pathChecks g) (step-places, path-places g)) i p j q v w
 
 -- an event graph with s and t among its events is not refused, where nothing but its paths is looked at after
 not-refused : {g : Graph} {s t : ℕ} {Short : Type 0} {Rest : ℕ → ℕ → Type 0} → EventGraph 1000000 g → s < g .events → t < g .events → (Short → ⊥) → (PathVerdict g 0 0 → Rest 0 0) → InputVerdict g s t Short Rest 0 0
@@ -53,7 +59,7 @@ module _ {g : Graph} {q s t : ℕ} where
   pub coarse-costs : {a : Answer} {x : ℤ} → CoarseAnswered g q s t a → a .refusal ≡ 0 → Separation g s t x → Costs q (a .«source_depth») (a .«target_depth») x (a .separation)
   coarse-costs p e exact =
       let f = p .found e in
-      costs-at-most (f .graph) (f .step-small) (f .source-known) (f .target-known) (f .depth-of-source) (f .depth-of-target) exact (f .greatest)
+      costs-at-most (sound-of (f .graph)) (f .source-known) (f .target-known) (f .depth-of-source) (f .depth-of-target) exact (f .greatest)
 
   pub answers-cost : {Short : Type 0} {a b : Answer} → Answered g s t Short a → a .refusal ≡ 0 → CoarseAnswered g q s t b → b .refusal ≡ 0 → Costs q (b .«source_depth») (b .«target_depth») (a .separation) (b .separation)
   answers-cost pa e pb f = coarse-costs pb f (pa .found e .greatest)
@@ -83,14 +89,12 @@ module _ {g : Graph} {q s t : ℕ} where
           let f = pa .found (h .0) in
           coarse-verdict-unique (pb .verdict) (not-refused (f .graph) (f .source-known) (f .target-known) (λ none. none) (passed (step-kept (h .1) (h .2)))) .0
 
-one-is-kept : {g : Graph} {j p : ℕ} → First 9 (StepOutside 1) (PathVerdict g) j p → PathVerdict g j p
-one-is-kept (given {p = p} o) = absurd (step-kept (omega arith) (omega arith) p o)
-one-is-kept (passed n r) = r
-
 pub coarse-one : {g : Graph} {s t : ℕ} {a : Answer} → CoarseAnswered g 1 s t a → Answered g s t ⊥ a
-coarse-one p =
+coarse-one {g} {s} {t} {a} p =
     record {
-      verdict = first-more (first-more (first-more (first-more one-is-kept))) (p .verdict);
+      verdict =
+          then-more (questionChecks g s t ⊥) (FirstOf (check 9 (StepOutside 1) ∷ pathChecks g)) (PathVerdict g) (a .refusal) (a .place)
+          (rest-of (check 9 (StepOutside 1) ∷ []) (PathVerdict g) (a .refusal) (a .place) (step-kept (omega arith) (omega arith), tt)) (p .verdict);
       found = λ e.
           let f = p .found e in
           record {

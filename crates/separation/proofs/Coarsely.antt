@@ -16,15 +16,18 @@ use lib.ListN.{length, getD, take}
 use lib.Seq.{length-take-le, getD-take}
 use Rattle.graphs.specs.Graph.{Graph, graphOf, rules}
 use Rattle.graphs.specs.Limits.{Sized, EventGraph}
-use Rattle.graphs.specs.Refusal.{First, given, passed, Accepted, Lowest, Unreached}
+use Rattle.verdicts.specs.Verdict.{given, passed, Accepted, Lowest}
+use Rattle.verdicts.proofs.Verdicts.{none-alike, more-alike, then-alike}
+use Rattle.graphs.specs.Refusal.{Unreached}
+use Rattle.graphs.proofs.Limits.{sound-of}
 use Rattle.executions.specs.Separation.{Separation, SameRules}
 use Rattle.executions.proofs.Same.{same-exchanged, path-same, cycle-same, depth-same}
 use Rattle.executions.proofs.Schedules.{separation-of}
 use Rattle.rounding.specs.Rounding.{Down, Up, Rounded, CoarseSeparation}
 use Rattle.rounding.proofs.Costs.{rounded-sized}
 use Rattle.separation.specs.declared.Answer.{Answer}
-use Rattle.separation.specs.Promise.{InputVerdict, PathVerdict, Nothing}
-use Rattle.separation.specs.Coarse.{StepOutside, CoarseFound, CoarseAnswered}
+use Rattle.separation.specs.Promise.{PathVerdict, Nothing}
+use Rattle.separation.specs.Coarse.{StepOutside, CoarseVerdict, CoarseFound, CoarseAnswered}
 use Rattle.separation.specs.Analysis.{InputKept, InputChecked, Computed, Analysed}
 use Rattle.separation.proofs.Verdicts.{input-refused, input-passed, step-kept}
 use Rattle.separation.proofs.Exact.{verdict-short}
@@ -55,14 +58,12 @@ module _ {g h : Graph} (same : SameRules g h) where
   lowest-back u =
       record { holds = unreached-same (same-exchanged same) (u .holds); lowest = λ q l x. u .lowest q l (unreached-same same x) }
 
-  reached-same : {j p : ℕ} → First 6 (Lowest (Unreached h)) Accepted j p → First 6 (Lowest (Unreached g)) Accepted j p
-  reached-same (given u) = given (lowest-same u)
-  reached-same (passed n r) = passed (λ q u. n q (lowest-back u)) r
-
   pub path-verdict-same : {j p : ℕ} → PathVerdict h j p → PathVerdict g j p
-  path-verdict-same (given c) = given (record { zero-place = c .zero-place; holds = cycle-same same (c .holds) })
-  path-verdict-same (passed n r) =
-      passed (λ q c. n q (record { zero-place = c .zero-place; holds = cycle-same (same-exchanged same) (c .holds) })) (reached-same r)
+  path-verdict-same {j} {p} v =
+      then-alike
+      (more-alike (λ q c. record { zero-place = c .zero-place; holds = cycle-same same (c .holds) })
+      (λ q c. record { zero-place = c .zero-place; holds = cycle-same (same-exchanged same) (c .holds) })
+      (more-alike (λ q u. lowest-same u) (λ q u. lowest-back u) none-alike)) Accepted j p v
 
 -- ---- the answers
 
@@ -72,13 +73,13 @@ not-short e = true≢false (sym e)
 module _ {g : Graph} {q s t : ℕ} {a : Answer} where
   pub coarse-refused : InputChecked g s t (false ≡ true) a → (a .refusal ≡ 0 → ⊥) → CoarseAnswered g q s t a
   coarse-refused c n =
-      record { verdict = verdict-short not-short (λ never. absurd never) (input-refused (c .refused n)); found = λ e. absurd (n e); nothing = c .nothing }
+      record { verdict = verdict-short not-short (λ never. absurd never) (input-refused n (c .refused n)); found = λ e. absurd (n e); nothing = c .nothing }
 
   pub coarse-step-refused : InputKept g s t (false ≡ true) → StepOutside q q → (a .refusal ≡ 9) × (a .place ≡ q) × Nothing a → CoarseAnswered g q s t a
   coarse-step-refused kept outside r =
       record {
         verdict =
-            subst₂ (λ (j p : ℕ). InputVerdict g s t ⊥ (First 9 (StepOutside q) (PathVerdict g)) j p) (sym (r .0)) (sym (r .1))
+            subst₂ (λ (j p : ℕ). CoarseVerdict g q s t j p) (sym (r .0)) (sym (r .1))
             (verdict-short not-short (λ never. absurd never) (input-passed kept (given outside)));
         found = λ e. absurd (let no : ⊥ = omega (arith, r .0) in no);
         nothing = λ _. r .2;
@@ -106,7 +107,7 @@ module _ {g : Graph} {q s t : ℕ} {a : Answer} where
               record {
                 graph = h;
                 rounded = rounded;
-                greatest = subst (Separation h s t) (sym (c .at-target)) (separation-of eh hs (c .found .steps) t ht);
+                greatest = subst (Separation h s t) (sym (c .at-target)) (separation-of (sound-of eh) hs (c .found .steps) t ht);
               };
           depth-of-source = depth-same same (c .depth-of-source);
           depth-of-target = depth-same same (c .depth-of-target);

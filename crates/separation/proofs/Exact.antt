@@ -1,22 +1,20 @@
 -- From what the parts promise to the promises of the public functions.
 --     answered-refused      an input that is refused is answered
 --     answered-analysed     an input that is kept is answered by the analysis: U at t is the greatest separation
---     first-long, second-long    lists that are not too short are long enough
 --     verdict-short         two ways to say that a list is too short give one verdict
 --     lists-refused         a refusal leaves both lists as they were
 --     lists-written         what `write_times` and `write_delays` wrote is the schedule
 -- Assumes nothing.
 use mathlib.Core.Path.{_≡_, refl, sym, subst}
-use mathlib.Core.Logic.{_⊎_, inl, inr, ⊎-elim}
 use mathlib.Core.List.{List}
-use Prim.Native.Nat.{ℕ, _<_, _≤_}
-use native.Mathlib.Decide.{decLt}
-use native.Mathlib.Omega.{arith}
+use Prim.Native.Nat.{ℕ}
 use lib.IntN.{ℤ}
 use lib.ListN.{length}
 use Rattle.graphs.specs.Graph.{Graph, graphOf, rules}
 use Rattle.graphs.specs.Limits.{EventGraph}
-use Rattle.graphs.specs.Refusal.{First, given, passed}
+use Rattle.verdicts.proofs.Verdicts.{then-alike}
+use Rattle.graphs.proofs.Limits.{sound-of}
+use Rattle.graphs.proofs.Refusals.{short-alike}
 use Rattle.executions.specs.Separation.{Separation}
 use Rattle.executions.specs.Schedule.{Latest}
 use Rattle.executions.proofs.Schedules.{separation-of, greatest-delay-of, schedule-of}
@@ -26,28 +24,16 @@ use Rattle.separation.specs.Analysis.{InputKept, InputChecked, Computed,
 use Rattle.separation.specs.Lists.{Filled, TimeAt, DelayAt}
 use Rattle.separation.proofs.Verdicts.{input-refused, input-passed}
 
--- a list that is not too short is long enough
-pub first-long : {a n : ℕ} {B : Type 0} → ((a < n) ⊎ B → ⊥) → n ≤ a
-first-long {a} {n} never = go (decLt a n)
-  where
-    go : Dec (a < n) → n ≤ a
-    go (yes h) = absurd (never (inl h))
-    go (no h) = omega arith
-
-pub second-long : {a n : ℕ} {A : Type 0} → (A ⊎ (a < n) → ⊥) → n ≤ a
-second-long never = first-long (λ x. never (⊎-elim inr inl x))
-
 module _ {g : Graph} {s t : ℕ} {A B : Type 0} (f : A → B) (h : B → A) where
   pub verdict-short : {Rest : ℕ → ℕ → Type 0} {j p : ℕ} → InputVerdict g s t A Rest j p → InputVerdict g s t B Rest j p
-  verdict-short (given a) = given (record { zero-place = a .zero-place; holds = ⊎-elim inl (λ x. inr (f x)) (a .holds) })
-  verdict-short (passed n r) = passed (λ q b. n q (record { zero-place = b .zero-place; holds = ⊎-elim inl (λ x. inr (h x)) (b .holds) })) r
+  verdict-short {Rest} {j} {p} v = then-alike (short-alike f h) Rest j p v
 
   pub answered-short : {a : Answer} → Answered g s t A a → Answered g s t B a
   answered-short x = record { verdict = verdict-short (x .verdict); found = x .found; nothing = x .nothing }
 
 module _ {g : Graph} {s t : ℕ} {Short : Type 0} {a : Answer} where
   pub answered-refused : InputChecked g s t Short a → (a .refusal ≡ 0 → ⊥) → Answered g s t Short a
-  answered-refused c n = record { verdict = input-refused (c .refused n); found = λ e. absurd (n e); nothing = c .nothing }
+  answered-refused c n = record { verdict = input-refused n (c .refused n); found = λ e. absurd (n e); nothing = c .nothing }
 
   module _ {latest : List ℤ} (kept : InputKept g s t Short) where
     pub graph-of : Computed g s t latest a → EventGraph 1000000 g
@@ -60,7 +46,7 @@ module _ {g : Graph} {s t : ℕ} {Short : Type 0} {a : Answer} where
           graph = eg;
           source-known = kept .source-known;
           target-known = kept .target-known;
-          greatest = subst (Separation g s t) (sym (c .at-target)) (separation-of eg (kept .source-known) (c .found .steps) t (kept .target-known));
+          greatest = subst (Separation g s t) (sym (c .at-target)) (separation-of (sound-of eg) (kept .source-known) (c .found .steps) t (kept .target-known));
           depth-of-source = c .depth-of-source;
           depth-of-target = c .depth-of-target;
         }
@@ -90,7 +76,7 @@ lists-written {n} {ss} {ts} {ds} {Ds} {s} {latest = latest} {times = times} kept
     let eg : EventGraph 1000000 (graphOf n ss ts ds Ds) = graph-of kept c in
     let late : Latest (graphOf n ss ts ds Ds) s (at times) = record { u = at latest; steps = c .found .steps; times = wt .each } in
     record {
-      schedule = λ _. schedule-of eg late (kept .source-known) (λ i l. greatest-delay-of eg late l (wd .each i l));
+      schedule = λ _. schedule-of (sound-of eg) late (kept .source-known) (λ i l. greatest-delay-of (sound-of eg) late l (wd .each i l));
       times-beyond = λ _. wt .beyond;
       delays-beyond = λ _. wd .beyond;
       times-kept = λ m. absurd (m e);

@@ -9,7 +9,6 @@ pub mod Filling
 pub mod Searches
 pub mod Targets
 pub mod MPass
-pub mod Counting
 pub mod Placement
 pub mod Arranging
 pub mod Exact

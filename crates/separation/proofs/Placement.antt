@@ -24,8 +24,9 @@ use lib.Dec.{eqb}
 use lib.ListN.{length, getD, set, length-set}
 use lib.Seq.{getD-set-same, getD-set-other}
 use Rattle.separation.specs.Links.{Last}
-use Rattle.separation.specs.Placing.{Counted, Tally, RulesKept, Waits, Placed, Progress, Turn}
-use Rattle.separation.proofs.Counting.{counted-all, counted-same, counted-less, counted-none, Leaves}
+use Rattle.separation.specs.Placing.{Tally, RulesKept, Waits, Placed, Progress, Turn}
+use Rattle.sequences.specs.Counted.{Counted}
+use Rattle.sequences.proofs.Counting.{counted-all, counted-same, counted-less, counted-none, Leaves}
 
 -- the ranks, with event x at place k
 moved : ℕ → ℕ → (ℕ → ℕ) → ℕ → ℕ

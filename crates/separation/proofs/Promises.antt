@@ -9,13 +9,12 @@
 -- Assumes nothing.
 use mathlib.Core.Path.{_≡_, refl, sym, subst, _∙_}
 use mathlib.Core.List.{List}
-use Prim.Native.Nat.{ℕ, _+_, _-_, _*_, _<_, _≤_}
-use native.Mathlib.Decide.{ℕ-discrete, decLt}
-use native.Mathlib.Omega.{arith}
+use Prim.Native.Nat.{ℕ, _+_, _*_}
+use native.Mathlib.Decide.{ℕ-discrete}
 use lib.IntN.{ℤ, pos, negℤ}
-use lib.ListN.{length, getD, drop}
-use lib.Seq.{ext-getD, getD-drop}
+use Rattle.sequences.proofs.Same.{same-places}
 use Rattle.graphs.specs.Graph.{Graph, rules}
+use Rattle.graphs.proofs.Limits.{sound-of}
 use Rattle.graphs.proofs.Unique.{depth-unique}
 use Rattle.integers.specs.Within.{Within}
 use Rattle.executions.specs.Separation.{LeastSeparation, SameRules, Near, DelaysNear}
@@ -23,7 +22,7 @@ use Rattle.executions.proofs.Nearness.{maxima-near}
 use Rattle.executions.proofs.Sizes.{exact-size}
 use Rattle.executions.proofs.Unique.{separation-unique, least-is-exchanged, latest-unique, greatest-delays-unique}
 use Rattle.separation.specs.declared.Answer.{Answer}
-use Rattle.separation.specs.Promise.{Verdict, Answered, Nothing, Written, at}
+use Rattle.separation.specs.Promise.{Verdict, Answered, Nothing, Written}
 use Rattle.separation.proofs.Verdicts.{verdict-unique}
 
 -- an answer is its five numbers
@@ -71,28 +70,14 @@ answer-unique pa pb =
     (pa .nothing)
     (pb .nothing)
 
--- lists that agree in the places up to n and beyond
-same-list : (n : ℕ) (xs ys : List ℤ) → length xs ≡ length ys → ((i : ℕ) → i < n → at xs i ≡ at ys i) → drop n xs ≡ drop n ys → xs ≡ ys
-same-list n xs ys long up-to beyond = ext-getD (pos 0) xs ys long (λ i l. place i (decLt i n))
-  where
-    after : (i : ℕ) → n ≤ i → at xs i ≡ at ys i
-    after i l =
-        let e : n + (i - n) ≡ i = omega arith in
-        subst (λ (k : ℕ). at xs k ≡ at ys k) e
-        (sym (getD-drop n xs (i - n) (pos 0)) ∙ subst (λ (zs : List ℤ). getD zs (i - n) (pos 0) ≡ at ys (n + (i - n))) (sym beyond) (getD-drop n ys (i - n) (pos 0)))
-
-    place : (i : ℕ) → Dec (i < n) → at xs i ≡ at ys i
-    place i (yes l) = up-to i l
-    place i (no l) = after i (omega arith)
-
 module _ {g : Graph} {s t : ℕ} {Short : Type 0} {a : Answer} (p : Answered g s t Short a) {times₀ delays₀ times delays times′ delays′ : List ℤ} (w : Written g s a times₀ delays₀ times delays) (w′ : Written g s a times₀ delays₀ times′ delays′) where
   pub times-unique : times ≡ times′
   times-unique = go (ℕ-discrete (a .refusal) 0)
     where
       go : Dec (a .refusal ≡ 0) → times ≡ times′
       go (yes e) =
-          same-list (g .events) times times′ (w .times-length ∙ sym (w′ .times-length))
-          (latest-unique (p .found e .graph) (p .found e .source-known) (w .schedule e .times) (w′ .schedule e .times))
+          same-places (g .events) times times′ (pos 0) (w .times-length ∙ sym (w′ .times-length))
+          (latest-unique (sound-of (p .found e .graph)) (p .found e .source-known) (w .schedule e .times) (w′ .schedule e .times))
           (w .times-beyond e ∙ sym (w′ .times-beyond e))
       go (no n) = w .times-kept n ∙ sym (w′ .times-kept n)
 
@@ -101,8 +86,8 @@ module _ {g : Graph} {s t : ℕ} {Short : Type 0} {a : Answer} (p : Answered g s
     where
       go : Dec (a .refusal ≡ 0) → delays ≡ delays′
       go (yes e) =
-          same-list (rules g) delays delays′ (w .delays-length ∙ sym (w′ .delays-length))
-          (greatest-delays-unique (p .found e .graph) (p .found e .source-known) (w .schedule e .times) (w′ .schedule e .times) (w .schedule e .delays) (w′ .schedule e .delays))
+          same-places (rules g) delays delays′ (pos 0) (w .delays-length ∙ sym (w′ .delays-length))
+          (greatest-delays-unique (sound-of (p .found e .graph)) (p .found e .source-known) (w .schedule e .times) (w′ .schedule e .times) (w .schedule e .delays) (w′ .schedule e .delays))
           (w .delays-beyond e ∙ sym (w′ .delays-beyond e))
       go (no n) = w .delays-kept n ∙ sym (w′ .delays-kept n)
 
@@ -133,4 +118,4 @@ module _ {g : Graph} {s t : ℕ} {Short : Type 0} {a : Answer} (pa : Answered g 
   answers-near pb accepted′ same e near =
       let f = pa .found accepted in
       let h = pb .found accepted′ in
-      maxima-near (f .graph) (h .graph) same e near (f .source-known) (f .target-known) (f .depth-of-source) (f .depth-of-target) (f .greatest) (h .greatest)
+      maxima-near (sound-of (f .graph)) (sound-of (h .graph)) same e near (f .source-known) (f .target-known) (f .depth-of-source) (f .depth-of-target) (f .greatest) (h .greatest)

@@ -13,9 +13,11 @@ use lib.ListN.{length, getD}
 use Rattle.graphs.specs.Graph.{Graph, graphOf}
 use Rattle.graphs.specs.Path.{Reachable}
 use Rattle.graphs.specs.Limits.{EndsKept, DelaysKept}
-use Rattle.graphs.specs.Refusal.{Lowest, UnknownEvent, DelayOutside, Unreached}
-use Rattle.faults.specs.Faults.{LowestOr, EndsKnown, EndUnknown, DelaysInside, DelaysOutside}
-use Rattle.faults.proofs.Lowest.{lowest-bad, all-good, as-long}
+use Rattle.verdicts.specs.Verdict.{Lowest}
+use Rattle.graphs.specs.Refusal.{UnknownEvent, DelayOutside, Unreached}
+use Rattle.verdicts.specs.Verdict.{LowestOr}
+use Rattle.faults.specs.Faults.{EndsKnown, EndUnknown, DelaysInside, DelaysOutside}
+use Rattle.verdicts.proofs.Searches.{lowest-bad, all-good, as-long}
 use Rattle.faults.proofs.Unique.{known-not-unknown, inside-not-outside}
 use Rattle.separation.specs.Passes.{DepthFound}
 

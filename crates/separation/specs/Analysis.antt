@@ -1,5 +1,4 @@
 -- What the parts of the analysis hand to one another.
---     Never                     == no verdict: what comes after the rule that was given
 --     InputKept g s t Short     == none of the refusals 1 to 4 applies
 --     InputChecked g s t Short a == a is one of the refusals 1 to 4, or has number 0 and none of them applies
 --     Arranged n ss ts …        == the rules are linked by source and by target, and the events are in an order where sources come first
@@ -13,17 +12,16 @@ use Prim.Native.Nat.{ℕ, _<_}
 use lib.IntN.{ℤ}
 use lib.ListN.{length}
 use Rattle.integers.specs.Within.{Within}
+use Rattle.verdicts.specs.Verdict.{FirstOf}
 use Rattle.graphs.specs.Graph.{Graph}
+use Rattle.graphs.specs.Refusal.{questionChecks}
 use Rattle.graphs.specs.Path.{HasCycle, Reachable, Depth}
 use Rattle.graphs.specs.Limits.{Sized}
 use Rattle.executions.specs.Steps.{U}
 use Rattle.separation.specs.declared.Answer.{Answer}
 use Rattle.separation.specs.Links.{LinkLists}
 use Rattle.separation.specs.Order.{Order}
-use Rattle.separation.specs.Promise.{InputVerdict, PathVerdict, Nothing, at}
-
-abbrev pub Never : ℕ → ℕ → Type 0
-Never j p = ⊥
+use Rattle.separation.specs.Promise.{PathVerdict, Nothing, at}
 
 pub record InputKept (g : Graph) (s t : ℕ) (Short : Type 0) : Type 0 where
   pub sized : Sized 1000000 g
@@ -32,7 +30,7 @@ pub record InputKept (g : Graph) (s t : ℕ) (Short : Type 0) : Type 0 where
   pub target-known : t < g .events
 
 pub record InputChecked (g : Graph) (s t : ℕ) (Short : Type 0) (a : Answer) : Type 0 where
-  pub refused : (a .refusal ≡ 0 → ⊥) → InputVerdict g s t Short Never (a .refusal) (a .place)
+  pub refused : (a .refusal ≡ 0 → ⊥) → FirstOf (questionChecks g s t Short) (a .refusal) (a .place)
   pub nothing : (a .refusal ≡ 0 → ⊥) → Nothing a
   pub kept : a .refusal ≡ 0 → InputKept g s t Short
 

@@ -6,14 +6,16 @@
 -- That the answer is never below the exact maximum, and how far above it may be, is proved in proofs/CoarsePromises.antt. Assumes nothing.
 use mathlib.Core.Path.{_≡_}
 use mathlib.Core.Logic.{_⊎_}
+use mathlib.Core.List.{_∷_}
 use Prim.Native.Nat.{ℕ, _<_, _≤_}
 use Rattle.graphs.specs.Graph.{Graph}
 use Rattle.graphs.specs.Path.{Depth}
 use Rattle.graphs.specs.Limits.{EventGraph}
-use Rattle.graphs.specs.Refusal.{First}
+use Rattle.verdicts.specs.Verdict.{check, FirstOf}
+use Rattle.graphs.specs.Refusal.{pathChecks}
 use Rattle.rounding.specs.Rounding.{CoarseSeparation}
 use Rattle.separation.specs.declared.Answer.{Answer}
-use Rattle.separation.specs.Promise.{InputVerdict, PathVerdict, Nothing}
+use Rattle.separation.specs.Promise.{InputVerdict, Nothing}
 
 pub record StepOutside (q p : ℕ) : Type 0 where
   pub its-place : p ≡ q
@@ -21,7 +23,7 @@ pub record StepOutside (q p : ℕ) : Type 0 where
 
 -- "analysis 1, 2, 3, 4, 9 (coarse form only), 5, 6"; no list is lent
 abbrev pub CoarseVerdict : Graph → ℕ → ℕ → ℕ → ℕ → ℕ → Type 0
-CoarseVerdict g q s t = InputVerdict g s t ⊥ (First 9 (StepOutside q) (PathVerdict g))
+CoarseVerdict g q s t = InputVerdict g s t ⊥ (FirstOf (check 9 (StepOutside q) ∷ pathChecks g))
 
 -- "The answer is the separation of the rounded graph, in ticks"; the depths are those of s and t
 pub record CoarseFound (g : Graph) (q s t : ℕ) (a : Answer) : Type 0 where

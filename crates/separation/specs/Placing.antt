@@ -1,5 +1,4 @@
 -- How the order of the events grows: what holds between two steps of `order`.
---     Counted P k c                   == exactly c of the numbers below k satisfy P
 --     Tally ts k waiting              == waiting[v] is the number of rules below k into v
 --     RulesKept n ss ts               == the limits that the rules ss, ts of n events keep
 --     Waits ss ts rank head e v i     == rule i is into v and not served yet
@@ -11,14 +10,10 @@
 -- both, as rules are fewer than 5000. Assumes nothing.
 use mathlib.Core.Path.{_≡_}
 use mathlib.Core.List.{List}
-use Prim.Native.Nat.{ℕ, suc, _+_, _*_, _<_, _≤_}
+use Prim.Native.Nat.{ℕ, _+_, _*_, _<_, _≤_}
 use lib.ListN.{length, getD}
+use Rattle.sequences.specs.Counted.{Counted}
 use Rattle.separation.specs.Passes.{EndsBelow}
-
-pub data Counted (P : ℕ → Type 0) : ℕ → ℕ → Type 0 where
-  none : Counted P 0 0
-  hit : {k c : ℕ} → P k → Counted P k c → Counted P (suc k) (suc c)
-  miss : {k c : ℕ} → (P k → ⊥) → Counted P k c → Counted P (suc k) c
 
 pub record Tally (ts : List ℕ) (k : ℕ) (waiting : List ℕ) : Type 0 where
   pub room : length waiting ≡ 1024

@@ -1,5 +1,4 @@
 -- The promises of the public functions. Document 01, sections "Executions" and "Refusal numbers"; demands 1 and 2.
---     MissingEnd g s t p        == refusal 4: "s or t doesn't exist", place "0 if s, else 1"
 --     ShortLists g times delays == a lent list is too short: "The time list needs n places, the delay list r places"
 --     InputVerdict g s t Short Rest == refusals 1 to 4, in 01's order, then Rest; Short says when a lent list is too short
 --     PathVerdict g             == refusals 5 and 6
@@ -16,27 +15,23 @@ use Prim.Native.Nat.{ℕ, _<_, _≤_}
 use lib.IntN.{ℤ, pos}
 use lib.ListN.{length, getD, drop}
 use Rattle.graphs.specs.Graph.{Graph, rules}
-use Rattle.graphs.specs.Path.{HasCycle, Depth}
+use Rattle.graphs.specs.Path.{Depth}
 use Rattle.graphs.specs.Limits.{EventGraph}
-use Rattle.graphs.specs.Refusal.{First, Accepted, AtZero, Lowest, CountsOutside, UnknownEvent, DelayOutside, Unreached}
+use Rattle.verdicts.specs.Verdict.{FirstThen, FirstOf}
+use Rattle.graphs.specs.Refusal.{questionChecks, pathChecks}
 use Rattle.executions.specs.Separation.{Separation}
 use Rattle.executions.specs.Schedule.{Schedule}
 use Rattle.separation.specs.declared.Answer.{Answer}
-
-pub data MissingEnd (g : Graph) (s t : ℕ) : ℕ → Type 0 where
-  source-missing : g .events ≤ s → MissingEnd g s t 0
-  target-missing : s < g .events → g .events ≤ t → MissingEnd g s t 1
 
 abbrev pub ShortLists : Graph → List ℤ → List ℤ → Type 0
 ShortLists g times delays = (length times < g .events) ⊎ (length delays < rules g)
 
 -- "analysis 1, 2, 3, 4, … 5, 6": the refusals of what is handed in, which leave the rest to Rest, and those of the paths
 abbrev pub InputVerdict : Graph → ℕ → ℕ → Type 0 → (ℕ → ℕ → Type 0) → ℕ → ℕ → Type 0
-InputVerdict g s t Short Rest =
-    First 1 (AtZero (CountsOutside g ⊎ Short)) (First 2 (Lowest (UnknownEvent g)) (First 3 (Lowest (DelayOutside g)) (First 4 (MissingEnd g s t) Rest)))
+InputVerdict g s t Short Rest = FirstThen (questionChecks g s t Short) Rest
 
 abbrev pub PathVerdict : Graph → ℕ → ℕ → Type 0
-PathVerdict g = First 5 (AtZero (HasCycle g)) (First 6 (Lowest (Unreached g)) Accepted)
+PathVerdict g = FirstOf (pathChecks g)
 
 abbrev pub Verdict : Graph → ℕ → ℕ → Type 0 → ℕ → ℕ → Type 0
 Verdict g s t Short = InputVerdict g s t Short (PathVerdict g)

@@ -4,7 +4,7 @@ ghost use mathlib.Core.Bool.{true, false};
 ghost use Prim.Native.Nat.{_≤_};
 ghost use lib.ListN.{length, getD};
 ghost use Rattle.graphs.specs.Graph.{graphOf};
-ghost use Rattle.faults.specs.Faults.{LowestOr};
+ghost use Rattle.verdicts.specs.Verdict.{LowestOr};
 ghost use Rattle.separation.specs.Checks.{CountsChecked};
 
 const MAX_EVENTS: usize = 1024;

@@ -8,22 +8,20 @@
 --     ends-known              a text's rules name only its events
 --     written-inside          what write_pairs counts lies in the list
 --     written-length          the list keeps its length, since every output fits
---     OneOf ks j              j is one of the numbers ks
---     only-1-3-4-5-6-8        no other refusal is given for a text, and only-1-3-5-6-8 by the pair program
+--     text-numbers            which refusals are given for a text, and pairs-numbers by the pair program
 --     never-2, never-7, never-9       so these are not
+--     number-small            and none is above 8
 --     found-within            a separation that is found is small
 --     entry-found, entry-refused      so the C entry's number is above −4,000,000,000 for a separation, and below for a refusal
 --     never-mistaken          and from the number alone the refusal is known
 -- Assumes nothing.
 use mathlib.Core.Path.{_≡_, refl, sym, ap, subst, _∙_}
-use mathlib.Core.Logic.{_⊎_, inl, inr, ⊎-elim}
 use mathlib.Core.List.{List, [], _∷_, _++_}
-use mathlib.Core.Bool.{Bool, true, false, cond}
 use Prim.Native.Nat.{ℕ, zero, suc, _+_, _<_, _≤_}
 use native.Mathlib.Nat.{not-suc-le-zero, le-of-suc-le-suc}
 use native.Mathlib.Decide.{ℕ-discrete}
 use native.Mathlib.Omega.{arith}
-use lib.Dec.{T, eqb, eqb-refl}
+use lib.Dec.{T}
 use lib.IntN.{ℤ, pos, negℤ}
 use lib.Signed.{_<ℤ_}
 use lib.ListN.{length, getD, drop, length-map, length-append, length-drop}
@@ -31,20 +29,22 @@ use Rattle.integers.specs.Within.{Within}
 use Rattle.integers.proofs.Integer.{linear, negation}
 use Rattle.graphs.specs.Graph.{Graph, rules}
 use Rattle.graphs.specs.Limits.{EndsKept}
-use Rattle.graphs.specs.Refusal.{given, passed, accepted}
-use Rattle.graphs.proofs.Unique.{depth-unique, lowest-unique, atZero-unique, first-unique, accepted-unique, ends-kept}
+use Rattle.graphs.specs.Refusal.{UnknownEvent, graphChecks, questionChecks, pathChecks, GraphVerdict}
+use Rattle.verdicts.specs.Verdict.{check, FirstOf, Accepted, accepted, AtZero, Lowest}
+use Rattle.verdicts.proofs.Verdicts.{OneVerdict, at-zero-unique, then-unique, one-verdict, accepted-none, then-place, OneOf, among, one-of}
+use Rattle.graphs.proofs.Unique.{depth-unique, ends-kept}
+use Rattle.graphs.proofs.Refusals.{question-places, path-places, graph-verdict-unique}
 use Rattle.executions.proofs.Unique.{separation-unique}
 use Rattle.executions.proofs.Sizes.{exact-size}
 use Rattle.separation.specs.declared.Answer.{Answer}
-use Rattle.separation.specs.Promise.{Verdict, Found, Answered}
-use Rattle.separation.proofs.Promises.{SameValues, answers-agree, answered-exactly}
+use Rattle.separation.specs.Promise.{Verdict, Found}
+use Rattle.separation.proofs.Promises.{SameValues, answers-agree}
 use Rattle.text.specs.Grammar.{Rule, Text}
-use Rattle.text.specs.Reading.{events, sourcesOf, targetsOf, graphOfRules, TextVerdict}
+use Rattle.text.specs.Reading.{events, sourcesOf, targetsOf, graphOfRules, textChecks, TextVerdict}
 use Rattle.text.specs.Answers.{NoLists, TextAnswered, entryNumber, Entered}
-use Rattle.text.specs.Output.{ending, pairs, Lines, pairHeader, GraphVerdict, PairsVerdict, Output, table, refused, RefusedLine, ShortOutput, PairsWritten}
+use Rattle.text.specs.Output.{ending, pairs, Lines, pairHeader, PairsVerdict, Output, table, refused, RefusedLine, ShortOutput, PairsWritten}
 use Rattle.text.specs.declared.PairsAnswer.{PairsAnswer}
-use Rattle.text.proofs.Refusals.{first-past, first-both}
-use Rattle.text.proofs.Texts.{text-unique, broken-unique}
+use Rattle.text.proofs.Texts.{text-unique}
 use Rattle.text.proofs.Unique.{verdict-unique}
 use Rattle.text.proofs.PairOrder.{lines-unique, refused-line-unique}
 use Rattle.text.proofs.Fitting.{output-fits}
@@ -59,28 +59,14 @@ module _ {bs : List ℕ} {s t : ℕ} where
   found-of : {a : Answer} {rs rs′ : List Rule} → Text bs rs → Text bs rs′ → Found (graphOfRules rs′) s t a → Found (graphOfRules rs) s t a
   found-of {a} text text′ f = subst (λ (rs : List Rule). Found (graphOfRules rs) s t a) (text-unique text′ text) f
 
-  rebuilt : {a : Answer} {rs : List Rule} → TextAnswered bs s t a → Text bs rs → Verdict (graphOfRules rs) s t ⊥ (a .refusal) (a .place) → Answered (graphOfRules rs) s t ⊥ a
-  rebuilt {a} x text v =
-      record {
-        verdict = v;
-        found = λ e. found-of text (x .found e .1) (x .found e .2);
-        nothing = x .nothing;
-      }
+  one-question : OneVerdict (Asked bs s t)
+  one-question i p j q (rs, text, u) (rs′, text′, u′) =
+      let here : Verdict (graphOfRules rs) s t ⊥ j q = subst (λ (rs : List Rule). Verdict (graphOfRules rs) s t ⊥ j q) (text-unique text′ text) u′ in
+      then-unique (questionChecks (graphOfRules rs) s t ⊥) (question-places (graphOfRules rs) s t ⊥)
+      (one-verdict (pathChecks (graphOfRules rs)) (path-places (graphOfRules rs))) i p j q u here
 
   pub text-answered-exactly : {a : Answer} → TextAnswered bs s t a → {j p : ℕ} → TextVerdict bs NoLists (Asked bs s t) j p → (a .refusal ≡ j) × (a .place ≡ p)
-  text-answered-exactly {a} x {j} {p} v =
-      ⊎-elim same
-      (λ past. ⊎-elim same
-      (λ past. ⊎-elim same rest (first-both (λ p q. atZero-unique) (past .0) (past .1)))
-      (first-both (λ p q. broken-unique) (past .0) (past .1)))
-      (first-both (λ p q. atZero-unique) (x .verdict) v)
-    where
-      same : {k : ℕ} → (a .refusal ≡ k) × (j ≡ k) × (a .place ≡ p) → (a .refusal ≡ j) × (a .place ≡ p)
-      same (e, f, h) = (e ∙ sym f, h)
-
-      rest : (Asked bs s t (a .refusal) (a .place)) × (Asked bs s t j p) → (a .refusal ≡ j) × (a .place ≡ p)
-      rest ((rs, text, u), (rs′, text′, u′)) =
-          answered-exactly (rebuilt x text u) (subst (λ (rs : List Rule). Verdict (graphOfRules rs) s t ⊥ j p) (text-unique text′ text) u′)
+  text-answered-exactly x v = verdict-unique one-question (x .verdict) v
 
   same-values : {a b : Answer} → (rs : List Rule) × Text bs rs × Found (graphOfRules rs) s t a → (rs : List Rule) × Text bs rs × Found (graphOfRules rs) s t b → SameValues a b
   same-values (rs, text, f) (rs′, text′, f′) =
@@ -101,13 +87,6 @@ module _ {bs : List ℕ} {s t : ℕ} where
 
 -- ---- what the pair program writes
 
-graph-verdict-unique : {g : Graph} {i p j q : ℕ} → GraphVerdict g i p → GraphVerdict g j q → (i ≡ j) × (p ≡ q)
-graph-verdict-unique =
-    first-unique (λ p q. atZero-unique)
-    (λ i p j q. first-unique (λ p q. lowest-unique)
-    (λ i p j q. first-unique (λ p q. lowest-unique)
-    (λ i p j q. first-unique (λ p q. atZero-unique) (λ i p j q. first-unique (λ p q. lowest-unique) (λ i p j q. accepted-unique)))))
-
 -- an answer is its three numbers
 same-answer : {a b : PairsAnswer} → (a .refusal ≡ b .refusal) × (a .place ≡ b .place) → a .bytes ≡ b .bytes → a ≡ b
 same-answer same k = λ i. record { refusal = same .0 i; place = same .1 i; bytes = k i }
@@ -115,7 +94,7 @@ same-answer same k = λ i. record { refusal = same .0 i; place = same .1 i; byte
 module _ {bs : List ℕ} where
   one-graph : (i p j q : ℕ) → (rs : List Rule) × Text bs rs × GraphVerdict (graphOfRules rs) i p → (rs : List Rule) × Text bs rs × GraphVerdict (graphOfRules rs) j q → (i ≡ j) × (p ≡ q)
   one-graph i p j q (rs, text, u) (rs′, text′, u′) =
-      graph-verdict-unique u (subst (λ (rs : List Rule). GraphVerdict (graphOfRules rs) j q) (text-unique text′ text) u′)
+      graph-verdict-unique (graphOfRules rs) i p j q u (subst (λ (rs : List Rule). GraphVerdict (graphOfRules rs) j q) (text-unique text′ text) u′)
 
   pub pairs-verdict-unique : {i p j q : ℕ} → PairsVerdict bs i p → PairsVerdict bs j q → (i ≡ j) × (p ≡ q)
   pairs-verdict-unique = verdict-unique one-graph
@@ -134,7 +113,7 @@ module _ {bs : List ℕ} where
   pairs-unique {out₀} {out} {out′} {a} {b} x y = go (ℕ-discrete (a .refusal) 0)
     where
       same : (a .refusal ≡ b .refusal) × (a .place ≡ b .place)
-      same = first-unique (λ p q. atZero-unique) (λ i p j q. accepted-unique) (x .verdict) (y .verdict)
+      same = one-verdict (check 1 (AtZero (ShortOutput out₀)) ∷ []) (at-zero-unique, tt) (a .refusal) (a .place) (b .refusal) (b .place) (x .verdict) (y .verdict)
 
       go : Dec (a .refusal ≡ 0) → (a ≡ b) × (out ≡ out′)
       go (yes e) =
@@ -162,7 +141,7 @@ written-length {bs} {out₀} {out} {a} x = go (ℕ-discrete (a .refusal) 0)
     go : Dec (a .refusal ≡ 0) → length out ≡ length out₀
     go (yes e) =
         let (output, o, count, bytes) = x .written e in
-        let (long, _) = first-past (x .verdict) (λ h. let no : ⊥ = omega arith in no) in
+        let ((long, _), _) = accepted-none (check 1 (AtZero (ShortOutput out₀)) ∷ []) Accepted (omega arith, tt) (a .refusal) (a .place) e (x .verdict) in
         let room : ShortOutput out₀ → ⊥ = λ short. long 0 (record { zero-place = refl; holds = short }) in
         omega (arith, ap length bytes, length-append output (drop (length output) out₀), length-drop (length output) out₀, output-fits o)
     go (no n) = ap length (x .kept n)
@@ -181,72 +160,63 @@ ends-known rs i l =
     let (s, t) = ends-in rs i (omega (arith, length-map rs (λ (r : Rule). r .source))) in
     record { source-known = s; target-known = t }
 
-abbrev pub OneOf : List ℕ → ℕ → Type 0
-OneOf [] j = ⊥
-OneOf (k ∷ ks) j = (j ≡ k) ⊎ OneOf ks j
-
--- the same as a test, which computes
-abbrev among : List ℕ → ℕ → Bool
-among [] j = false
-among (k ∷ ks) j = cond (eqb j k) true (among ks j)
-
-one-among : (ks : List ℕ) (j : ℕ) → OneOf ks j → T (among ks j)
-one-among (k ∷ ks) j (inl e) = subst (λ (i : ℕ). T (cond (eqb j i) true (among ks j))) e (first (eqb j j) (eqb-refl j))
-  where
-    first : (b : Bool) → T b → T (cond b true (among ks j))
-    first true t = tt
-one-among (k ∷ ks) j (inr h) = later (eqb j k) (one-among ks j h)
-  where
-    later : (b : Bool) → T (among ks j) → T (cond b true (among ks j))
-    later true t = tt
-    later false t = t
-
-text-refusals : {bs : List ℕ} {s t j p : ℕ} → TextVerdict bs NoLists (Asked bs s t) j p → OneOf (0 ∷ 1 ∷ 3 ∷ 4 ∷ 5 ∷ 6 ∷ 8 ∷ []) j
-text-refusals (given a) = inr (inl refl)
-text-refusals (passed bytes (given b)) = inr (inr (inr (inr (inr (inr (inl refl))))))
-text-refusals (passed bytes (passed rows (given a))) = inr (inl refl)
-text-refusals {s = s} {t} {j} {p} (passed bytes (passed rows (passed counts (rs, text, v)))) = asked v
-  where
-    asked : {j p : ℕ} → Verdict (graphOfRules rs) s t ⊥ j p → OneOf (0 ∷ 1 ∷ 3 ∷ 4 ∷ 5 ∷ 6 ∷ 8 ∷ []) j
-    asked (given a) = inr (inl refl)
-    asked (passed n1 (given {p = i} a)) = absurd (ends-kept (ends-known rs i (a .holds .is-rule)) (a .holds))
-    asked (passed n1 (passed n2 (given a))) = inr (inr (inl refl))
-    asked (passed n1 (passed n2 (passed n3 (given a)))) = inr (inr (inr (inl refl)))
-    asked (passed n1 (passed n2 (passed n3 (passed n4 (given a))))) = inr (inr (inr (inr (inl refl))))
-    asked (passed n1 (passed n2 (passed n3 (passed n4 (passed n5 (given a)))))) = inr (inr (inr (inr (inr (inl refl)))))
-    asked (passed n1 (passed n2 (passed n3 (passed n4 (passed n5 (passed n6 accepted)))))) = inl refl
-
 -- "n is 1 + the greatest event number seen", so that no rule of a text names an event that is not there
-pub only-1-3-4-5-6-8 : {bs : List ℕ} {s t : ℕ} {a : Answer} → TextAnswered bs s t a → OneOf (0 ∷ 1 ∷ 3 ∷ 4 ∷ 5 ∷ 6 ∷ 8 ∷ []) (a .refusal)
-only-1-3-4-5-6-8 x = text-refusals (x .verdict)
+no-unknown : {A : Type 0} (rs : List Rule) (p : ℕ) → Lowest (UnknownEvent (graphOfRules rs)) p → A
+no-unknown rs p a = absurd (ends-kept (ends-known rs p (a .holds .is-rule)) (a .holds))
+
+zero-of : (Q : ℕ → Type 0) {j p : ℕ} → Q 0 → Accepted j p → Q j
+zero-of Q z accepted = z
+
+-- what holds of 0 and of each number that a text's refusals have
+module _ (Q : ℕ → Type 0) (zero-kept : Q 0) (kept-1 : Q 1) (kept-3 : Q 3) (kept-5 : Q 5) (kept-6 : Q 6) (kept-8 : Q 8) where
+  text-kept : {bs : List ℕ} {Rest : ℕ → ℕ → Type 0} {j p : ℕ} → (Rest j p → Q j) → TextVerdict bs NoLists Rest j p → Q j
+  text-kept {bs} {Rest} {j} {p} rest v = then-place (λ (k q : ℕ). Q k) (textChecks bs NoLists) Rest j p (λ q a. kept-1, (λ q a. kept-8, (λ q a. kept-1, tt))) rest v
+
+  paths-kept : {g : Graph} {j p : ℕ} → FirstOf (pathChecks g) j p → Q j
+  paths-kept {g} {j} {p} v = then-place (λ (k q : ℕ). Q k) (pathChecks g) Accepted j p (λ q a. kept-5, (λ q a. kept-6, tt)) (zero-of Q zero-kept) v
+
+  question-kept : Q 4 → {bs : List ℕ} {s t j p : ℕ} → Asked bs s t j p → Q j
+  question-kept kept-4 {s = s} {t} {j} {p} (rs, text, v) =
+      then-place (λ (k q : ℕ). Q k) (questionChecks (graphOfRules rs) s t ⊥) (FirstOf (pathChecks (graphOfRules rs))) j p
+      (λ q a. kept-1, (no-unknown rs, (λ q a. kept-3, (λ q a. kept-4, tt)))) paths-kept v
+
+  graph-kept : {bs : List ℕ} {j p : ℕ} → (rs : List Rule) × Text bs rs × GraphVerdict (graphOfRules rs) j p → Q j
+  graph-kept {j = j} {p} (rs, text, v) =
+      then-place (λ (k q : ℕ). Q k) (graphChecks (graphOfRules rs)) (FirstOf (pathChecks (graphOfRules rs))) j p
+      (λ q a. kept-1, (no-unknown rs, (λ q a. kept-3, tt))) paths-kept v
 
 module _ {bs : List ℕ} {s t : ℕ} {a : Answer} (x : TextAnswered bs s t a) where
-  other-refusals : (k : ℕ) → a .refusal ≡ k → T (among (0 ∷ 1 ∷ 3 ∷ 4 ∷ 5 ∷ 6 ∷ 8 ∷ []) k)
-  other-refusals k e = one-among (0 ∷ 1 ∷ 3 ∷ 4 ∷ 5 ∷ 6 ∷ 8 ∷ []) k (subst (OneOf (0 ∷ 1 ∷ 3 ∷ 4 ∷ 5 ∷ 6 ∷ 8 ∷ [])) e (only-1-3-4-5-6-8 x))
+  among-text : T (among (1 ∷ 3 ∷ 4 ∷ 5 ∷ 6 ∷ 8 ∷ []) (a .refusal))
+  among-text =
+      let Q : ℕ → Type 0 = λ j. T (among (1 ∷ 3 ∷ 4 ∷ 5 ∷ 6 ∷ 8 ∷ []) j) in
+      text-kept Q tt tt tt tt tt tt (question-kept Q tt tt tt tt tt tt tt) (x .verdict)
+
+  pub text-numbers : OneOf (a .refusal) (1 ∷ 3 ∷ 4 ∷ 5 ∷ 6 ∷ 8 ∷ [])
+  text-numbers = one-of (1 ∷ 3 ∷ 4 ∷ 5 ∷ 6 ∷ 8 ∷ []) (a .refusal) among-text
+
+  others : (k : ℕ) → a .refusal ≡ k → T (among (1 ∷ 3 ∷ 4 ∷ 5 ∷ 6 ∷ 8 ∷ []) k)
+  others k e = subst (λ (j : ℕ). T (among (1 ∷ 3 ∷ 4 ∷ 5 ∷ 6 ∷ 8 ∷ []) j)) e among-text
 
   pub never-2 : a .refusal ≡ 2 → ⊥
-  never-2 e = other-refusals 2 e
+  never-2 e = others 2 e
 
   pub never-7 : a .refusal ≡ 7 → ⊥
-  never-7 e = other-refusals 7 e
+  never-7 e = others 7 e
 
   pub never-9 : a .refusal ≡ 9 → ⊥
-  never-9 e = other-refusals 9 e
+  never-9 e = others 9 e
+
+  pub number-small : a .refusal ≤ 8
+  number-small =
+      let Q : ℕ → Type 0 = λ j. j ≤ 8 in
+      text-kept Q (omega arith) (omega arith) (omega arith) (omega arith) (omega arith) (omega arith)
+      (question-kept Q (omega arith) (omega arith) (omega arith) (omega arith) (omega arith) (omega arith) (omega arith)) (x .verdict)
 
 -- a pair program asks about no s and t
-pub only-1-3-5-6-8 : {bs : List ℕ} {j p : ℕ} → PairsVerdict bs j p → OneOf (0 ∷ 1 ∷ 3 ∷ 5 ∷ 6 ∷ 8 ∷ []) j
-only-1-3-5-6-8 (given a) = inr (inl refl)
-only-1-3-5-6-8 (passed bytes (given b)) = inr (inr (inr (inr (inr (inl refl)))))
-only-1-3-5-6-8 (passed bytes (passed rows (given a))) = inr (inl refl)
-only-1-3-5-6-8 (passed bytes (passed rows (passed counts (rs, text, v)))) = graphs v
-  where
-    graphs : {j p : ℕ} → GraphVerdict (graphOfRules rs) j p → OneOf (0 ∷ 1 ∷ 3 ∷ 5 ∷ 6 ∷ 8 ∷ []) j
-    graphs (given a) = inr (inl refl)
-    graphs (passed n1 (given {p = i} a)) = absurd (ends-kept (ends-known rs i (a .holds .is-rule)) (a .holds))
-    graphs (passed n1 (passed n2 (given a))) = inr (inr (inl refl))
-    graphs (passed n1 (passed n2 (passed n3 (given a)))) = inr (inr (inr (inl refl)))
-    graphs (passed n1 (passed n2 (passed n3 (passed n5 (given a))))) = inr (inr (inr (inr (inl refl))))
-    graphs (passed n1 (passed n2 (passed n3 (passed n5 (passed n6 accepted))))) = inl refl
+pub pairs-numbers : {bs : List ℕ} {j p : ℕ} → PairsVerdict bs j p → OneOf j (1 ∷ 3 ∷ 5 ∷ 6 ∷ 8 ∷ [])
+pairs-numbers {j = j} v =
+    let Q : ℕ → Type 0 = λ j. T (among (1 ∷ 3 ∷ 5 ∷ 6 ∷ 8 ∷ []) j) in
+    one-of (1 ∷ 3 ∷ 5 ∷ 6 ∷ 8 ∷ []) j (text-kept Q tt tt tt tt tt tt (graph-kept Q tt tt tt tt tt tt) v)
 
 -- ---- the C entry's number
 

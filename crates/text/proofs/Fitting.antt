@@ -2,8 +2,7 @@
 --     Known n ps       the pairs ps are pairs of n events
 --     pairs-known      so are those of `pairs n`
 --     pairs-few        and of at most 64 events there are at most 64 × 64
---     graph-kept       a graph that is accepted passes refusals 1 to 3, and has no cycle
---     line-places      then a pair's line takes at most 31 places
+--     line-places      a pair's line takes at most 31 places
 --     output-fits      so an output takes at most `outputPlaces`
 -- The idea. The table is written for a graph that is accepted, of at most 64 events. Its values are differences of two times of an execution, at most
 -- 2,046,000,000 either side of zero: eleven places with the minus. With two event numbers of two digits, three commas and the ending a line takes 31 places
@@ -18,16 +17,16 @@ use Rattle.integers.specs.Within.{Within}
 use Rattle.graphs.specs.Graph.{Graph}
 use Rattle.graphs.specs.Path.{HasCycle}
 use Rattle.graphs.specs.Limits.{Sized}
-use Rattle.graphs.proofs.Unique.{sized-of}
+use Rattle.graphs.specs.Refusal.{GraphVerdict}
+use Rattle.graphs.proofs.Refusals.{graph-accepted}
 use Rattle.executions.proofs.Sizes.{gap-within}
 use Rattle.text.specs.Grammar.{Rule}
 use Rattle.text.specs.Reading.{events, graphOfRules}
-use Rattle.text.specs.Output.{Pair, pairOf, upFrom, pairsOfAll, pairs, PairLine, Lines, GraphVerdict, PairsVerdict, Output, table, refused, outputPlaces}
+use Rattle.text.specs.Output.{Pair, pairOf, upFrom, pairsOfAll, pairs, PairLine, Lines, PairsVerdict, Output, table, refused, outputPlaces}
 use Rattle.text.specs.Output as output
-use Rattle.text.proofs.Refusals.{first-past}
 use Rattle.text.proofs.Texts.{text-unique}
 use Rattle.text.proofs.Decimal.{natural-places, integer-places}
-use Rattle.text.proofs.Handed.{counts-small}
+use Rattle.text.proofs.Handed.{text-passed, counts-small}
 use Rattle.text.proofs.Places.{pairs-small}
 
 -- ---- the pairs
@@ -65,14 +64,6 @@ module _ (n : ℕ) where
 
 -- ---- the table
 
-pub graph-kept : {g : Graph} → GraphVerdict g 0 0 → Sized 1000000 g × (HasCycle g → ⊥)
-graph-kept v =
-    let (no-1, v2) = first-past v (λ e. let no : ⊥ = omega arith in no) in
-    let (no-2, v3) = first-past v2 (λ e. let no : ⊥ = omega arith in no) in
-    let (no-3, v5) = first-past v3 (λ e. let no : ⊥ = omega arith in no) in
-    let (no-5, _) = first-past v5 (λ e. let no : ⊥ = omega arith in no) in
-    (sized-of (λ o. no-1 0 (record { zero-place = refl; holds = o })) no-2 no-3, λ c. no-5 0 (record { zero-place = refl; holds = c }))
-
 module _ {g : Graph} (sized : Sized 1000000 g) (acyclic : HasCycle g → ⊥) (few : g .events ≤ 64) where
   pub line-places : {p : Pair} {bs : List ℕ} → p .from < g .events → p .to < g .events → PairLine g p bs → length bs ≤ 31
   line-places {p} f t w =
@@ -91,14 +82,12 @@ module _ {g : Graph} (sized : Sized 1000000 g) (acyclic : HasCycle g → ⊥) (f
 pub output-fits : {bs out : List ℕ} → Output bs out → length out ≤ outputPlaces
 output-fits {bs} (table rs lines v text are e) =
     let (few, _, _) = counts-small v refl text in
-    let (sized, acyclic) = graph-kept (accepted v) in
+    let (sized, acyclic) = graph-accepted (graphOfRules rs) 0 0 refl (accepted v) in
     rw e (simp length-append (omega (arith, lines-places sized acyclic few (pairs-known (events rs)) are, pairs-few (events rs) few)))
   where
     accepted : PairsVerdict bs 0 0 → GraphVerdict (graphOfRules rs) 0 0
     accepted v =
-        let (_, v8) = first-past v (λ e. let no : ⊥ = omega arith in no) in
-        let (_, v1) = first-past v8 (λ e. let no : ⊥ = omega arith in no) in
-        let (_, (rs′, text′, v0)) = first-past v1 (λ e. let no : ⊥ = omega arith in no) in
+        let (_, (rs′, text′, v0)) = text-passed v refl in
         subst (λ (rs : List Rule). GraphVerdict (graphOfRules rs) 0 0) (text-unique text′ text) v0
 output-fits (refused k p l v line) =
     let small = pairs-small v in

@@ -1,8 +1,8 @@
 -- A text's rules as they are handed on: read into four lists of 1,024 places, and taken from there as a graph.
 --     refused-on      what the reader refuses, every question about the text is refused for
---     accepted-on     past the reader, what follows decides
+--     text-passed     number 0 is given past the reader, where none of its checks applies
+--     accepted-on     and there what follows decides
 --     counts-small    an accepted text has few events and few rows, and no list is too short
---     some-event      and one event at least
 --     Handed          what is known of the lists after an accepted reading: their first places are the text's graph
 --     handed          so it is
 --     read-refused    the reader's refusal, with nothing lent
@@ -18,7 +18,8 @@ use lib.IntN.{ℤ}
 use lib.ListN.{length, take, drop, length-map, length-take}
 use lib.Seq.{take-at}
 use Rattle.graphs.specs.Graph.{Graph, graphOf}
-use Rattle.graphs.specs.Refusal.{given, passed, Accepted, accepted}
+use Rattle.verdicts.specs.Verdict.{Accepted, AtZero}
+use Rattle.verdicts.proofs.Verdicts.{NoneApplies, Alike, passed-all, front-given, Refusals, accepted-none, more-alike, none-alike, then-alike}
 use Rattle.separation.specs.declared.Answer.{Answer}
 use Rattle.separation.specs.Promise.{Verdict, Answered, Nothing}
 use Rattle.text.specs.declared.Reading.{Reading}
@@ -35,60 +36,58 @@ use Rattle.text.specs.Reading.{
   many-events,
   many-rows,
   short-list,
+  CountsBeyond,
+  textChecks,
   TextVerdict,
   ReadOff,
   ListsHold,
   RulesWritten,
 }
 use Rattle.text.specs.Answers.{NoLists, TextAnswered}
-use Rattle.text.proofs.Refusals.{first-past}
 
 -- ---- from one verdict to the next
 
 module _ {Short : List Rule → Type 0} where
-  no-lists : {rs : List Rule} → Beyond NoLists rs → Beyond Short rs
-  no-lists (many-events l) = many-events l
-  no-lists (many-rows l) = many-rows l
-  no-lists (short-list x) = absurd x
+  no-lists : (rs : List Rule) → Beyond NoLists rs → Beyond Short rs
+  no-lists rs (many-events l) = many-events l
+  no-lists rs (many-rows l) = many-rows l
+  no-lists rs (short-list x) = absurd x
 
   -- where a list is too short only for more than 1,024 rows
-  too-many : ((rs : List Rule) → Short rs → 1024 < length rs) → {rs : List Rule} → Beyond Short rs → Beyond NoLists rs
-  too-many room (many-events l) = many-events l
-  too-many room (many-rows l) = many-rows l
-  too-many room {rs} (short-list x) = many-rows (room rs x)
+  too-many : ((rs : List Rule) → Short rs → 1024 < length rs) → (rs : List Rule) → Beyond Short rs → Beyond NoLists rs
+  too-many room rs (many-events l) = many-events l
+  too-many room rs (many-rows l) = many-rows l
+  too-many room rs (short-list x) = many-rows (room rs x)
+
+counts-on : {bs : List ℕ} {A B : List Rule → Type 0} → ((rs : List Rule) → Beyond A rs → Beyond B rs) → (p : ℕ) → AtZero (CountsBeyond bs A) p → AtZero (CountsBeyond bs B) p
+counts-on f p a = record { zero-place = a .zero-place; holds = record { rs = a .holds .rs; text = a .holds .text; beyond = f (a .holds .rs) (a .holds .beyond) } }
+
+-- no check of a text has number 0
+text-refusals : (bs : List ℕ) (Short : List Rule → Type 0) → Refusals (textChecks bs Short)
+text-refusals bs Short = (omega arith, (omega arith, (omega arith, tt)))
 
 module _ {bs : List ℕ} {Short : List Rule → Type 0} where
+  lists-alike : ((rs : List Rule) → Short rs → 1024 < length rs) → Alike (textChecks bs Short) (textChecks bs NoLists)
+  lists-alike room = more-alike (λ p a. a) (λ p a. a) (more-alike (λ p a. a) (λ p a. a) (more-alike (counts-on (too-many room)) (counts-on no-lists) none-alike))
+
   pub refused-on : ((rs : List Rule) → Short rs → 1024 < length rs) → {Rest : ℕ → ℕ → Type 0} {j p : ℕ} → TextVerdict bs Short Accepted j p → (j ≡ 0 → ⊥) → TextVerdict bs NoLists Rest j p
-  refused-on room (given a) other = given a
-  refused-on room (passed bytes (given b)) other = passed bytes (given b)
-  refused-on room (passed bytes (passed rows (given a))) other =
-      passed bytes
-      (passed rows
-      (given (record { zero-place = a .zero-place; holds = record { rs = a .holds .rs; text = a .holds .text; beyond = too-many room (a .holds .beyond) } })))
-  refused-on room (passed bytes (passed rows (passed counts accepted))) other = absurd (other refl)
+  refused-on room {Rest} {j} {p} v other = front-given (textChecks bs NoLists) Rest j p other (then-alike (lists-alike room) Accepted j p v)
+
+  pub text-passed : {Rest : ℕ → ℕ → Type 0} {j p : ℕ} → TextVerdict bs Short Rest j p → j ≡ 0 → NoneApplies (textChecks bs Short) × Rest j p
+  text-passed {Rest} {j} {p} v e = accepted-none (textChecks bs Short) Rest (text-refusals bs Short) j p e v
 
   pub accepted-on : {Rest : ℕ → ℕ → Type 0} {i j p q : ℕ} → TextVerdict bs Short Accepted i q → i ≡ 0 → Rest j p → TextVerdict bs NoLists Rest j p
-  accepted-on v e r =
-      let (bytes, v8) = first-past v (λ h. let no : ⊥ = omega arith in no) in
-      let (rows, v1) = first-past v8 (λ h. let no : ⊥ = omega arith in no) in
-      let (counts, v0) = first-past v1 (λ h. let no : ⊥ = omega arith in no) in
-      passed bytes
-      (passed rows
-      (passed (λ q a. counts q (record { zero-place = a .zero-place; holds = record { rs = a .holds .rs; text = a .holds .text; beyond = no-lists (a .holds .beyond) } })) r))
+  accepted-on {Rest} {j = j} {p} v e r =
+      let ((bytes, (rows, (counts, _))), _) = text-passed v e in
+      passed-all (textChecks bs NoLists) Rest j p (bytes, (rows, (λ q a. counts q (counts-on no-lists q a), tt))) r
 
   pub counts-small : {Rest : ℕ → ℕ → Type 0} {i q : ℕ} → TextVerdict bs Short Rest i q → i ≡ 0 → {rs : List Rule} → Text bs rs → (events rs ≤ 64) × (length rs ≤ 1024) × (Short rs → ⊥)
   counts-small v e {rs} text =
-      let (bytes, v8) = first-past v (λ h. let no : ⊥ = omega arith in no) in
-      let (rows, v1) = first-past v8 (λ h. let no : ⊥ = omega arith in no) in
-      let (counts, v0) = first-past v1 (λ h. let no : ⊥ = omega arith in no) in
+      let ((_, (_, (counts, _))), _) = text-passed v e in
       let beyond : Beyond Short rs → ⊥ = λ b. counts 0 (record { zero-place = refl; holds = record { rs = rs; text = text; beyond = b } }) in
       let few : 64 < events rs → ⊥ = λ l. beyond (many-events l) in
       let few-rows : 1024 < length rs → ⊥ = λ l. beyond (many-rows l) in
       (omega arith, omega arith, λ x. beyond (short-list x))
-
-pub some-event : (rs : List Rule) → 1 ≤ events rs
-some-event [] = omega arith
-some-event (r ∷ rs) = omega arith
 
 -- ---- the lists after a reading
 
@@ -96,7 +95,6 @@ pub record Handed (bs : List ℕ) (a : Reading) (ss ts : List ℕ) (ds Ds : List
   pub rs : List Rule
   pub text : Text bs rs
   pub event-count : a .events ≡ events rs
-  pub some : 1 ≤ a .events
   pub few : a .events ≤ 64
   pub few-rows : a .rules ≤ 1024
   pub graph : graphOf (a .events) (take (a .rules) ss) (take (a .rules) ts) (take (a .rules) ds) (take (a .rules) Ds) ≡ graphOfRules rs
@@ -121,7 +119,6 @@ module _ {bs : List ℕ} {a : Reading} {ss₀ ts₀ : List ℕ} {ds₀ Ds₀ : L
         rs = rs;
         text = text;
         event-count = n;
-        some = omega (arith, some-event rs);
         few = omega arith;
         few-rows = omega arith;
         graph = held-graph (w .written e rs text) n m;

@@ -16,8 +16,6 @@ pub mod Decimal
 pub mod WrittenNumbers
 pub mod WrittenLines
 pub mod PairOrder
-pub mod Refusals
-pub mod Tabling
 pub mod Handed
 pub mod Places
 pub mod PairOutput

@@ -15,14 +15,14 @@ use Rattle.executions.proofs.Unique.{separation-unique, least-unique, least-is-
 use Rattle.executions.proofs.Sizes.{exact-size}
 use Rattle.text.specs.Numbers.{Integer}
 use Rattle.text.specs.Output.{Pair, PairLine, Lines, none, more, RefusedLine}
-use Rattle.text.specs.Tables.{entry, Filled}
+use Rattle.table.specs.Table.{entry, RowsFilled}
 use Rattle.text.specs.TableLines as inner
 use Rattle.text.specs.TableLines.{TableLine, TableLines, SmallEntries}
 use Rattle.text.proofs.Decimal.{natural-unique, integer-unique}
 
 -- ---- from the table to the graph
 
-module _ {g : Graph} {n : ℕ} {table : List ℤ} (same : g .events ≡ n) (filled : Filled g n table) where
+module _ {g : Graph} {n : ℕ} {table : List ℤ} (same : g .events ≡ n) (filled : RowsFilled g n table) where
   separation-at : (s t : ℕ) → s < n → t < n → Separation g s t (entry table s t)
   separation-at s t ls lt = filled .row s ls .each t (omega arith)
 

@@ -7,22 +7,25 @@
 --     table-put         the table
 -- Assumes nothing.
 use mathlib.Core.Path.{_≡_, refl, ap, sym, subst, subst₂, _∙_}
-use mathlib.Core.List.{List, _++_}
+use mathlib.Core.List.{List, [], _∷_, _++_}
 use Prim.Native.Nat.{ℕ, _+_, _≤_}
 use native.Mathlib.Omega.{arith}
 use lib.IntN.{ℤ}
 use lib.ListN.{length, take, drop}
 use Rattle.graphs.specs.Graph.{Graph, graphOf}
 use Rattle.graphs.specs.Limits.{EventGraph}
-use Rattle.graphs.specs.Refusal.{given, passed, accepted}
-use Rattle.separation.specs.declared.Answer.{Answer}
+use Rattle.graphs.specs.Refusal.{GraphVerdict}
+use Rattle.verdicts.specs.Verdict.{given, check, AtZero}
+use Rattle.verdicts.proofs.Verdicts.{none-accepted}
+use Rattle.graphs.proofs.Refusals.{graph-place}
 use Rattle.text.specs.declared.Reading.{Reading}
 use Rattle.text.specs.Reading.{events, graphOfRules, ShortLists, ReadOff, RulesWritten}
 use Rattle.text.specs.Output.{pairs, ending, Lines, pairHeader, RefusedLine, PairsVerdict, Output, table, refused, outputPlaces, ShortOutput, PairsWritten}
 use Rattle.text.specs.Appending.{Appended}
-use Rattle.text.specs.Tables.{Filled, TableAnswered}
-use Rattle.text.proofs.Places.{place-zero}
-use Rattle.text.proofs.Handed.{handed, accepted-on, read-refused}
+use Rattle.table.specs.declared.TableAnswer.{TableAnswer}
+use Rattle.table.specs.Table.{RowsFilled, TableAnswered}
+use Rattle.table.proofs.Rows.{not-large, table-alone}
+use Rattle.text.proofs.Handed.{handed, few-taken, accepted-on, read-refused}
 
 -- ---- the lent list
 
@@ -42,7 +45,7 @@ pub output-written : {bs out₀ out : List ℕ} {k : ℕ} → outputPlaces ≤ l
 output-written {out₀ = out₀} {out} room (bytes, o, a) =
     let count : length bytes ≡ 0 + length bytes = omega arith in
     record {
-      verdict = passed (λ p short. let no : ⊥ = omega (arith, short .holds) in no) accepted;
+      verdict = none-accepted (check 1 (AtZero (ShortOutput out₀)) ∷ []) (λ p short. let no : ⊥ = omega (arith, short .holds) in no, tt);
       written = λ e. (bytes, o, a .after ∙ sym count, a .bytes ∙ ap (λ (m : ℕ). bytes ++ drop m out₀) (a .after ∙ sym count));
       no-bytes = λ n. absurd (n refl);
       kept = λ n. absurd (n refl);
@@ -69,22 +72,31 @@ module _ {bs : List ℕ} {a : Reading} {ss₀ ts₀ : List ℕ} {ds₀ Ds₀ : L
   pub read-refused-put : {out₀ out : List ℕ} {k : ℕ} → length ss₀ ≡ 1024 → length ts₀ ≡ 1024 → length ds₀ ≡ 1024 → length Ds₀ ≡ 1024 → (a .refusal ≡ 0 → ⊥) → LineWritten (a .refusal) (a .place) out₀ out k → OutputPut bs out₀ out k
   read-refused-put l₁ l₂ l₃ l₄ n line = refusal-put n (read-refused w r l₁ l₂ l₃ l₄ n) line
 
-  module _ {b : Answer} {entries : List ℤ} (e : a .refusal ≡ 0) (t : TableAnswered (graphOf (a .events) (take (a .rules) ss) (take (a .rules) ts) (take (a .rules) ds) (take (a .rules) Ds)) b entries) where
-    answered : TableAnswered (graphOfRules (handed w r e .rs)) b entries
-    answered = subst (λ (g : Graph). TableAnswered g b entries) (handed w r e .graph) t
+  module _ {b : TableAnswer} {entries₀ entries : List ℤ} (long : length entries₀ ≡ 4096) (e : a .refusal ≡ 0) (t : TableAnswered (graphOf (a .events) (take (a .rules) ss) (take (a .rules) ts) (take (a .rules) ds) (take (a .rules) Ds)) entries₀ b entries) where
+    -- the table is refused as the graph is alone
+    pub read-alone : GraphVerdict (graphOf (a .events) (take (a .rules) ss) (take (a .rules) ts) (take (a .rules) ds) (take (a .rules) Ds)) (b .refusal) (b .place)
+    read-alone =
+        let h = handed w r e in
+        table-alone (not-large (h .few) (few-taken ss (h .few-rows)) (omega (arith, h .few))) (b .refusal) (b .place) (t .verdict)
+
+    alone : GraphVerdict (graphOfRules (handed w r e .rs)) (b .refusal) (b .place)
+    alone = subst (λ (g : Graph). GraphVerdict g (b .refusal) (b .place)) (handed w r e .graph) read-alone
+
+    answered : TableAnswered (graphOfRules (handed w r e .rs)) entries₀ b entries
+    answered = subst (λ (g : Graph). TableAnswered g entries₀ b entries) (handed w r e .graph) t
 
     verdict : PairsVerdict bs (b .refusal) (b .place)
-    verdict = accepted-on (r .verdict) e (handed w r e .rs, handed w r e .text, answered .verdict)
+    verdict = accepted-on (r .verdict) e (handed w r e .rs, handed w r e .text, alone)
 
     pub refused-put : {out₀ out : List ℕ} {k : ℕ} → (b .refusal ≡ 0 → ⊥) → LineWritten (b .refusal) (b .place) out₀ out k → OutputPut bs out₀ out k
     refused-put n line = refusal-put n verdict line
 
-    pub table-put : {out₀ out : List ℕ} {k : ℕ} → b .refusal ≡ 0 → ((g : Graph) → g .events ≡ a .events → EventGraph 1000000 g → Filled g (a .events) entries → TableWritten g (a .events) out₀ out k) → OutputPut bs out₀ out k
+    pub table-put : {out₀ out : List ℕ} {k : ℕ} → b .refusal ≡ 0 → ((g : Graph) → g .events ≡ a .events → EventGraph 1000000 g → RowsFilled g (a .events) entries → TableWritten g (a .events) out₀ out k) → OutputPut bs out₀ out k
     table-put z writes =
         let h = handed w r e in
         let same : events (h .rs) ≡ a .events = sym (h .event-count) in
-        let filled : Filled (graphOfRules (h .rs)) (a .events) entries = subst (λ (n : ℕ). Filled (graphOfRules (h .rs)) n entries) same (answered .filled z) in
+        let filled : RowsFilled (graphOfRules (h .rs)) (a .events) entries = subst (λ (n : ℕ). RowsFilled (graphOfRules (h .rs)) n entries) same (answered .filled z) in
         let (lines, are-lines, written) = writes (graphOfRules (h .rs)) same (answered .graph z) filled in
         let lines-of : Lines (graphOfRules (h .rs)) (pairs (events (h .rs))) lines = subst (λ (n : ℕ). Lines (graphOfRules (h .rs)) (pairs n) lines) (h .event-count) are-lines in
-        let zero-verdict : PairsVerdict bs 0 0 = subst₂ (PairsVerdict bs) z (place-zero (answered .verdict) z) verdict in
+        let zero-verdict : PairsVerdict bs 0 0 = subst₂ (PairsVerdict bs) z (graph-place (graphOfRules (h .rs)) (b .refusal) (b .place) z alone) verdict in
         (pairHeader ++ (ending ++ lines), table (h .rs) lines zero-verdict (h .text) lines-of refl, written)

@@ -5,19 +5,20 @@
 --     read-small       so are those of the reader's refusals
 --     graph-small      and those of a graph with few events and rules
 --     pairs-small      and those of the pair program's
---     place-zero       where nothing is refused the place is 0
 -- Assumes nothing.
 use mathlib.Core.Path.{_≡_, refl}
-use mathlib.Core.List.{List, _∷_}
+use mathlib.Core.List.{List, _∷_, _++_}
 use Prim.Native.Nat.{ℕ, _+_, _*_, _<_, _≤_}
 use native.Mathlib.Omega.{arith}
 use lib.ListN.{length, length-append, length-map}
 use Rattle.graphs.specs.Graph.{Graph, rules}
-use Rattle.graphs.specs.Refusal.{given, passed, Accepted, accepted}
+use Rattle.verdicts.specs.Verdict.{Accepted, accepted, AtZero}
+use Rattle.verdicts.proofs.Verdicts.{Misses, NoneApplies, Places, then-place, PlacesAfter, then-place-after}
+use Rattle.graphs.specs.Refusal.{graphChecks, pathChecks, GraphVerdict}
 use Rattle.text.specs.Grammar.{Rule, Text, Ended, start, ended, Broken}
-use Rattle.text.specs.Reading.{events, graphOfRules, Beyond, many-events, many-rows, TextVerdict}
+use Rattle.text.specs.Reading.{events, graphOfRules, Beyond, many-events, many-rows, textChecks, TextVerdict}
 use Rattle.text.specs.Answers.{NoLists}
-use Rattle.text.specs.Output.{GraphVerdict, PairsVerdict}
+use Rattle.text.specs.Output.{PairsVerdict}
 
 pub ended-bytes : {bs : List ℕ} {k : ℕ} {rest : List ℕ} → Ended bs k rest → 2 * k + length rest ≤ length bs
 ended-bytes start = omega arith
@@ -29,47 +30,50 @@ pub record Small (j p : ℕ) : Type 0 where
   pub number : j < 10
   pub place : p < 100000
 
+at-zero-small : {A : Type 0} (k p : ℕ) → k < 10 → AtZero A p → Small k p
+at-zero-small k p l a = record { number = l; place = omega (arith, a .zero-place) }
+
 broken-place : {bs : List ℕ} {k : ℕ} → Broken bs k → k ≤ 1 + length bs
 broken-place b = omega (arith, ended-bytes (b .rows-before))
 
-module _ {bs : List ℕ} {Short : List Rule → Type 0} {Rest : ℕ → ℕ → Type 0} (rest : ((rs : List Rule) → Text bs rs → Beyond Short rs → ⊥) → (j p : ℕ) → Rest j p → Small j p) where
-  pub text-small : {j p : ℕ} → TextVerdict bs Short Rest j p → Small j p
-  text-small (given a) = record { number = omega arith; place = omega (arith, a .zero-place) }
-  text-small (passed bytes (given b)) =
-      let few : 32768 < length bs → ⊥ = λ l. bytes 0 (record { zero-place = refl; holds = l }) in
-      record { number = omega arith; place = omega (arith, broken-place b) }
-  text-small (passed bytes (passed rows (given a))) = record { number = omega arith; place = omega (arith, a .zero-place) }
-  text-small {j} {p} (passed bytes (passed rows (passed counts r))) =
-      rest (λ rs text b. counts 0 (record { zero-place = refl; holds = record { rs = rs; text = text; beyond = b } })) j p r
+pub text-small : {bs : List ℕ} {Short : List Rule → Type 0} {Rest : ℕ → ℕ → Type 0} → (NoneApplies (textChecks bs Short) → (j p : ℕ) → Rest j p → Small j p) → {j p : ℕ} → TextVerdict bs Short Rest j p → Small j p
+text-small {bs} {Short} {Rest} rest {j} {p} v = then-place-after Small (textChecks bs Short) Rest j p each (λ none r. rest none j p r) v
+  where
+    broken-small : Misses (AtZero (32768 < length bs)) → (q : ℕ) → Broken bs q → Small 8 q
+    broken-small bytes q b =
+        let few : 32768 < length bs → ⊥ = λ l. bytes 0 (record { zero-place = refl; holds = l }) in
+        record { number = omega arith; place = omega (arith, broken-place b) }
+
+    each : PlacesAfter Small (textChecks bs Short)
+    each = (λ q a. at-zero-small 1 q (omega arith) a, λ bytes. (broken-small bytes, λ rows. (λ q a. at-zero-small 1 q (omega arith) a, λ counts. tt)))
 
 accepted-small : {j p : ℕ} → Accepted j p → Small j p
 accepted-small accepted = record { number = omega arith; place = omega arith }
 
 pub read-small : {bs : List ℕ} {Short : List Rule → Type 0} {j p : ℕ} → TextVerdict bs Short Accepted j p → Small j p
-read-small = text-small (λ inside j p. accepted-small)
+read-small = text-small (λ none j p. accepted-small)
 
-module _ {g : Graph} (few-events : g .events ≤ 64) (few-rules : rules g ≤ 1024) where
-  pub graph-small : {j p : ℕ} → GraphVerdict g j p → Small j p
-  graph-small (given a) = record { number = omega arith; place = omega (arith, a .zero-place) }
-  graph-small (passed n1 (given a)) = record { number = omega arith; place = omega (arith, a .holds .is-rule) }
-  graph-small (passed n1 (passed n2 (given a))) = record { number = omega arith; place = omega (arith, a .holds .is-rule) }
-  graph-small (passed n1 (passed n2 (passed n3 (given a)))) = record { number = omega arith; place = omega (arith, a .zero-place) }
-  graph-small (passed n1 (passed n2 (passed n3 (passed n5 (given a))))) = record { number = omega arith; place = omega (arith, a .holds .is-event) }
-  graph-small (passed n1 (passed n2 (passed n3 (passed n5 (passed n6 accepted))))) = record { number = omega arith; place = omega arith }
+pub graph-small : {g : Graph} → g .events ≤ 64 → rules g ≤ 1024 → {j p : ℕ} → GraphVerdict g j p → Small j p
+graph-small {g} few-events few-rules {j} {p} v = then-place Small (graphChecks g ++ pathChecks g) Accepted j p each accepted-small v
+  where
+    each : Places Small (graphChecks g ++ pathChecks g)
+    each = (
+      λ q a. at-zero-small 1 q (omega arith) a,
+      (
+        λ q a. record { number = omega arith; place = omega (arith, a .holds .is-rule) },
+        (
+          λ q a. record { number = omega arith; place = omega (arith, a .holds .is-rule) },
+          (λ q a. at-zero-small 5 q (omega arith) a, (λ q a. record { number = omega arith; place = omega (arith, a .holds .is-event) }, tt)),
+        ),
+      ),
+    )
 
 pub pairs-small : {bs : List ℕ} {j p : ℕ} → PairsVerdict bs j p → Small j p
 pairs-small {bs} = text-small graphs
   where
-    graphs : ((rs : List Rule) → Text bs rs → Beyond NoLists rs → ⊥) → (j p : ℕ) → (rs : List Rule) × Text bs rs × GraphVerdict (graphOfRules rs) j p → Small j p
-    graphs inside j p (rs, text, v) =
-        let few-events : 64 < events rs → ⊥ = λ l. inside rs text (many-events l) in
-        let few-rows : 1024 < length rs → ⊥ = λ l. inside rs text (many-rows l) in
+    graphs : NoneApplies (textChecks bs NoLists) → (j p : ℕ) → (rs : List Rule) × Text bs rs × GraphVerdict (graphOfRules rs) j p → Small j p
+    graphs (_, (_, (counts, _))) j p (rs, text, v) =
+        let inside : Beyond NoLists rs → ⊥ = λ b. counts 0 (record { zero-place = refl; holds = record { rs = rs; text = text; beyond = b } }) in
+        let few-events : 64 < events rs → ⊥ = λ l. inside (many-events l) in
+        let few-rows : 1024 < length rs → ⊥ = λ l. inside (many-rows l) in
         graph-small (omega arith) (omega (arith, length-map rs (λ (r : Rule). r .source))) v
-
-pub place-zero : {g : Graph} {j p : ℕ} → GraphVerdict g j p → j ≡ 0 → p ≡ 0
-place-zero (given a) e = absurd (let no : ⊥ = omega arith in no)
-place-zero (passed n1 (given a)) e = absurd (let no : ⊥ = omega arith in no)
-place-zero (passed n1 (passed n2 (given a))) e = absurd (let no : ⊥ = omega arith in no)
-place-zero (passed n1 (passed n2 (passed n3 (given a)))) e = absurd (let no : ⊥ = omega arith in no)
-place-zero (passed n1 (passed n2 (passed n3 (passed n5 (given a))))) e = absurd (let no : ⊥ = omega arith in no)
-place-zero (passed n1 (passed n2 (passed n3 (passed n5 (passed n6 accepted))))) e = refl

@@ -1,6 +1,7 @@
 -- The promise of the reader fixes its result: two readings allowed for one text are equal, lists included.
 --     broken-first          a text of not too many bytes that is broken is refused with 8
---     verdict-unique        a text has one verdict
+--     text-places           each check of a text has one place
+--     verdict-unique        so a text has one verdict
 --     reading-unique        two readings of one text are equal
 --     reading-exactly       a refusal is given exactly when its rule says: whatever number and place the verdict allows, the reading has them
 --     Same, written-unique  what two runs leave in the four lists
@@ -13,11 +14,11 @@ use native.Mathlib.Decide.{ℕ-discrete}
 use native.Mathlib.Omega.{arith}
 use lib.IntN.{ℤ}
 use lib.ListN.{length}
-use Rattle.graphs.specs.Refusal.{given, passed, Accepted}
-use Rattle.graphs.proofs.Unique.{OneVerdict, atZero-unique, first-unique, accepted-unique}
+use Rattle.verdicts.specs.Verdict.{given, passed, Accepted}
+use Rattle.verdicts.proofs.Verdicts.{OnePlaces, OneVerdict, at-zero-unique, accepted-unique, then-unique}
 use Rattle.text.specs.declared.Reading.{Reading}
 use Rattle.text.specs.Grammar.{Rule, Broken}
-use Rattle.text.specs.Reading.{TextVerdict, ReadOff, RulesWritten, events}
+use Rattle.text.specs.Reading.{textChecks, TextVerdict, ReadOff, RulesWritten, events}
 use Rattle.text.proofs.Texts.{text-unique, broken-unique}
 
 -- ---- the reading
@@ -26,14 +27,15 @@ use Rattle.text.proofs.Texts.{text-unique, broken-unique}
 pub broken-first : {bs : List ℕ} {Short : List Rule → Type 0} {Rest : ℕ → ℕ → Type 0} {k : ℕ} → length bs ≤ 32768 → Broken bs k → TextVerdict bs Short Rest 8 k
 broken-first few broken = passed (λ q z. let long = z .holds in omega arith) (given broken)
 
+pub text-places : (bs : List ℕ) (Short : List Rule → Type 0) → OnePlaces (textChecks bs Short)
+text-places bs Short = (at-zero-unique, (λ p q a b. broken-unique a b, (at-zero-unique, tt)))
+
 pub verdict-unique : {bs : List ℕ} {Short : List Rule → Type 0} {Rest : ℕ → ℕ → Type 0} → OneVerdict Rest →
     {i p j q : ℕ} → TextVerdict bs Short Rest i p → TextVerdict bs Short Rest j q → (i ≡ j) × (p ≡ q)
-verdict-unique rest =
-    first-unique (λ p q. atZero-unique)
-    (λ i p j q. first-unique (λ p q. broken-unique) (λ i p j q. first-unique (λ p q. atZero-unique) rest))
+verdict-unique {bs} {Short} {Rest} rest {i} {p} {j} {q} v w = then-unique (textChecks bs Short) {Rest = Rest} (text-places bs Short) rest i p j q v w
 
 pub reading-exactly : {bs : List ℕ} {Short : List Rule → Type 0} {a : Reading} → ReadOff bs Short a → {j p : ℕ} → TextVerdict bs Short Accepted j p → (a .refusal ≡ j) × (a .place ≡ p)
-reading-exactly x v = verdict-unique (λ i p j q. accepted-unique) (x .verdict) v
+reading-exactly x v = verdict-unique accepted-unique (x .verdict) v
 
 -- a reading is its four numbers
 same-reading : {a b : Reading} → a .refusal ≡ b .refusal → a .place ≡ b .place → a .events ≡ b .events → a .rules ≡ b .rules → a ≡ b

@@ -13,7 +13,7 @@ use Prim.Native.Nat.{ℕ, _≤_, _<_}
 use native.Mathlib.Omega.{arith}
 use lib.IntN.{ℤ}
 use lib.ListN.{length}
-use Rattle.graphs.specs.Refusal.{given, passed, Accepted, accepted, AtZero}
+use Rattle.verdicts.specs.Verdict.{given, passed, Accepted, accepted, AtZero}
 use Rattle.text.specs.declared.Reading.{Reading}
 use Rattle.text.specs.Grammar.{Rule, Text, Broken}
 use Rattle.text.specs.Reading.{events, ShortLists, Beyond, many-events, many-rows, short-list, CountsBeyond, TextVerdict, ReadOff, ListsHold, RulesWritten}

@@ -13,7 +13,7 @@ use lib.IntN.{ℤ, pos, negℤ, _-ℤ_}
 use lib.ListN.{length, length-append}
 use Rattle.text.specs.Appending.{Appended}
 use Rattle.text.specs.Output.{Pair, pairOf, upFrom, pairsFrom, pairsOfAll, pairs, RefusedLine, pairHeader, ending, refusedWord}
-use Rattle.text.specs.Tables.{entry}
+use Rattle.table.specs.Table.{entry}
 use Rattle.text.specs.TableLines.{LineOf, TableLine, TableLines, none, more, SmallEntries}
 use Rattle.text.proofs.Appends.{appended-none, appended-more, appended-length}
 use Rattle.text.proofs.WrittenNumbers.{NaturalPut, IntegerPut, word, word-back, minus-back}

@@ -9,6 +9,4 @@ pub mod Scanning
 pub mod Parts
 pub mod Scans
 pub mod Appending
-pub mod Tables
-pub mod TableRows
 pub mod TableLines

@@ -4,7 +4,6 @@
 --     Lines g ps bs         == bs are the lines of the pairs ps
 --     pairHeader            == `from,to,least,most`
 --     RefusedLine k p bs    == bs is the line `refused`, number k, place p
---     GraphVerdict g        == the refusals of a graph alone, as the analysis has them
 --     PairsVerdict bs       == the refusals of the pair program
 --     Output bs out         == out is what the pair program writes for the text bs
 --     outputPlaces          == how many places a lent list needs for the output: every output fits (`output-fits`, proofs/Fitting.antt)
@@ -18,9 +17,9 @@ use Prim.Native.Nat.{ℕ, zero, suc, _-_, _<_, _≤_}
 use lib.IntN.{ℤ}
 use lib.ListN.{length, drop}
 use Rattle.graphs.specs.Graph.{Graph}
-use Rattle.graphs.specs.Refusal.{First, Accepted, AtZero, Lowest, CountsOutside, UnknownEvent, DelayOutside}
+use Rattle.verdicts.specs.Verdict.{check, FirstOf, AtZero}
+use Rattle.graphs.specs.Refusal.{GraphVerdict}
 use Rattle.executions.specs.Separation.{Separation, LeastSeparation}
-use Rattle.separation.specs.Promise.{PathVerdict}
 use Rattle.text.specs.Numbers.{Natural, Integer}
 use Rattle.text.specs.Grammar.{Rule, Text}
 use Rattle.text.specs.Reading.{TextVerdict, events, graphOfRules}
@@ -91,10 +90,7 @@ pub record RefusedLine (k p : ℕ) (bs : List ℕ) : Type 0 where
   pub place-written : Natural place-field p
   pub bytes : bs ≡ refusedWord ++ (44 ∷ (number-field ++ (44 ∷ (place-field ++ ending))))
 
--- "then as the analysis": of a graph with no s and t, there is no refusal 4
-abbrev pub GraphVerdict : Graph → ℕ → ℕ → Type 0
-GraphVerdict g = First 1 (AtZero (CountsOutside g)) (First 2 (Lowest (UnknownEvent g)) (First 3 (Lowest (DelayOutside g)) (PathVerdict g)))
-
+-- "then as the analysis", of a graph alone
 abbrev pub PairsVerdict : List ℕ → ℕ → ℕ → Type 0
 PairsVerdict bs = TextVerdict bs NoLists (λ (j p : ℕ). (rs : List Rule) × Text bs rs × GraphVerdict (graphOfRules rs) j p)
 
@@ -111,7 +107,7 @@ ShortOutput out₀ = length out₀ < outputPlaces
 
 -- "A refusal returns its number and place … and every lent list keeps its contents"; "places beyond keep what they held"
 pub record PairsWritten (bs out₀ : List ℕ) (a : PairsAnswer) (out : List ℕ) : Type 0 where
-  pub verdict : First 1 (AtZero (ShortOutput out₀)) Accepted (a .refusal) (a .place)
+  pub verdict : FirstOf (check 1 (AtZero (ShortOutput out₀)) ∷ []) (a .refusal) (a .place)
   pub written : a .refusal ≡ 0 → (output : List ℕ) × Output bs output × (a .bytes ≡ length output) × (out ≡ output ++ drop (length output) out₀)
   pub no-bytes : (a .refusal ≡ 0 → ⊥) → a .bytes ≡ 0
   pub kept : (a .refusal ≡ 0 → ⊥) → out ≡ out₀

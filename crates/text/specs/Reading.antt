@@ -3,7 +3,8 @@
 --     graphOfRules rs      == the graph with that many events and these rules
 --     ShortLists rs …      == one of the four lent lists is too short for the rules rs
 --     CountsBeyond bs Short == bs is the text of rules, and they, or their events, are too many, or Short says of them that a lent list is too short
---     TextVerdict bs Short Rest == the refusals of a text: "Order: 1 for the bytes, 8, 1 for the counts", then Rest
+--     textChecks bs Short  == the refusals of a text
+--     TextVerdict bs Short Rest == the first of them that applies, then Rest
 --     ReadOff bs Short a   == a is the reading of bs
 --     ListsHold rs …       == the four lent lists hold the rules rs, and beyond what they held
 --     RulesWritten bs a …  == what the four lent lists hold after
@@ -15,7 +16,7 @@ use Prim.Native.Nat.{ℕ, suc, max, _<_}
 use lib.IntN.{ℤ}
 use lib.ListN.{length, drop}
 use Rattle.graphs.specs.Graph.{Graph, graphOf}
-use Rattle.graphs.specs.Refusal.{First, Accepted, AtZero}
+use Rattle.verdicts.specs.Verdict.{Check, check, FirstThen, Accepted, AtZero}
 use Rattle.text.specs.Grammar.{Rule, Text, Broken}
 use Rattle.text.specs.declared.Reading.{Reading}
 
@@ -52,9 +53,12 @@ pub record CountsBeyond (bs : List ℕ) (Short : List Rule → Type 0) : Type 0 
   pub text : Text bs rs
   pub beyond : Beyond Short rs
 
--- "at most 32,768 bytes"
+-- "at most 32,768 bytes"; "Order: 1 for the bytes, 8, 1 for the counts"
+abbrev pub textChecks : List ℕ → (List Rule → Type 0) → List Check
+textChecks bs Short = check 1 (AtZero (32768 < length bs)) ∷ check 8 (Broken bs) ∷ check 1 (AtZero (CountsBeyond bs Short)) ∷ []
+
 abbrev pub TextVerdict : List ℕ → (List Rule → Type 0) → (ℕ → ℕ → Type 0) → ℕ → ℕ → Type 0
-TextVerdict bs Short Rest = First 1 (AtZero (32768 < length bs)) (First 8 (Broken bs) (First 1 (AtZero (CountsBeyond bs Short)) Rest))
+TextVerdict bs Short Rest = FirstThen (textChecks bs Short) Rest
 
 pub record ReadOff (bs : List ℕ) (Short : List Rule → Type 0) (a : Reading) : Type 0 where
   pub verdict : TextVerdict bs Short Accepted (a .refusal) (a .place)

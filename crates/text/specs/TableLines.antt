@@ -11,7 +11,7 @@ use lib.IntN.{ℤ, negℤ}
 use Rattle.integers.specs.Within.{Within}
 use Rattle.text.specs.Numbers.{Natural, Integer}
 use Rattle.text.specs.Output.{Pair, ending}
-use Rattle.text.specs.Tables.{entry}
+use Rattle.table.specs.Table.{entry}
 
 pub record LineOf (s t : ℕ) (least most : ℤ) (bs : List ℕ) : Type 0 where
   pub from-field : List ℕ

@@ -20,7 +20,6 @@ mod numerals;
 mod rows;
 mod rules;
 mod scan;
-mod table;
 
 use crate::lines::put_pairs;
 use crate::lines::put_refusal;
@@ -28,7 +27,6 @@ use crate::rules::write_rules;
 use crate::scan::beyond;
 use crate::scan::refused;
 use crate::scan::scan;
-use crate::table::fill_table;
 use separation::Answer;
 
 // The answer to a reading. `refusal` is 0, or the number of document 01's table, with its place; `events` and `rules` count what was read.
@@ -129,19 +127,19 @@ fn put_output(text: &[u8], out: &mut [u8]) -> usize
         return put_refusal(out, found.refusal, found.place);
     }
     let rules = found.rules;
-    let mut table = [0i64; 4096];
-    let answer = fill_table(
+    let mut entries = [0i64; 4096];
+    let answer = table::fill_table(
         found.events,
         &sources[..rules],
         &targets[..rules],
         &leasts[..rules],
         &mosts[..rules],
-        &mut table,
+        &mut entries,
     );
     if answer.refusal != 0 {
         return put_refusal(out, answer.refusal, answer.place);
     }
-    put_pairs(out, found.events, &table)
+    put_pairs(out, found.events, &entries)
 }
 
 // What the pair program writes for a text, into a lent list of at least 131,072 places. A shorter list is refused, and keeps what it held.

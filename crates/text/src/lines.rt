@@ -8,7 +8,7 @@ ghost use Rattle.graphs.specs.Graph.{Graph};
 ghost use Rattle.graphs.specs.Limits.{EventGraph};
 ghost use Rattle.text.specs.Appending.{Appended};
 ghost use Rattle.text.specs.Output.{RefusedLine, Lines, pairs, pairsFrom, pairHeader, ending, outputPlaces};
-ghost use Rattle.text.specs.Tables.{Filled};
+ghost use Rattle.table.specs.Table.{RowsFilled};
 ghost use Rattle.text.specs.TableLines.{LineOf, TableLines, SmallEntries};
 use crate::numerals::put_byte;
 use crate::numerals::put_bytes;
@@ -67,8 +67,8 @@ fn put_pairs_from(out: &mut [u8], at: usize, n: usize, from: usize, table: &[i64
 // The header and the line of every pair.
 pub(crate) fn put_pairs(out: &mut [u8], n: usize, table: &[i64]) -> usize
     requires { ⌜ (outputPlaces ≤ length (now out)) × (n ≤ 64) × (length (now table) ≡ 4096) ⌝ }
-    requires { ⌜ ((g : Graph) × (g .events ≡ n) × EventGraph 1000000 g × Filled g n (now table)) ⌝ }
-    ensures { λ r. ⌜ ((g : Graph) → g .events ≡ n → EventGraph 1000000 g → Filled g n (now (table .entry)) → (bs : List ℕ) × Lines g (pairs n) bs × Appended (now (out .entry)) 0 (pairHeader ++ (ending ++ bs)) (now (out .exit)) r) ⌝ }
+    requires { ⌜ ((g : Graph) × (g .events ≡ n) × EventGraph 1000000 g × RowsFilled g n (now table)) ⌝ }
+    ensures { λ r. ⌜ ((g : Graph) → g .events ≡ n → EventGraph 1000000 g → RowsFilled g n (now (table .entry)) → (bs : List ℕ) × Lines g (pairs n) bs × Appended (now (out .entry)) 0 (pairHeader ++ (ending ++ bs)) (now (out .exit)) r) ⌝ }
 {
     let mut at = put_bytes(out, 0, b"from,to,least,most\r\n");
     let mut from = 0;

@@ -6,8 +6,8 @@ use mir.Syntax.{w64}
 use mir.ValLaws.{toZ-ofZ}
 use borrow.Author.Needs.{needs}
 use Rattle.integers.proofs.Word.{within-fits}
-use Rattle.text.proofs.Answered.{only-1-3-4-5-6-8}
-use Rattle.crankforest.proofs.EntryNumbers.{refusal-small, within-8, refused-fits, refused-number}
+use Rattle.text.proofs.Answered.{number-small}
+use Rattle.crankforest.proofs.EntryNumbers.{within-8, refused-fits, refused-number}
 use Rattle.crankforest.proofs.crankforest_separation.Statement.{statement}
 use Rattle.crankforest.proofs.crankforest_separation.Tie as tie
 
@@ -24,7 +24,7 @@ returns c =
     }
 
 small : (c : tie.Else1) → c .before .text-separation .result .refusal ≤ 8
-small c = refusal-small (only-1-3-4-5-6-8 (c .before .text-separation .ensures))
+small c = number-small (c .before .text-separation .ensures)
 
 cast-result : tie.Need-cast-result
 cast-result c = within-fits w64 8 _ (lit< tt) (within-8 _ (small c))

@@ -8,7 +8,7 @@ use mir.Syntax.{w64}
 use Rattle.integers.proofs.Word.{read-pair}
 use Rattle.graphs.specs.Refusal.{OutsideDelays}
 use Rattle.faults.specs.Faults.{InsideDelays, DelaysInside}
-use Rattle.faults.proofs.Lowest.{Passed, passed-none, passed-more, lowest-here, lowest-end}
+use Rattle.verdicts.proofs.Searches.{Passed, passed-none, passed-more, lowest-here, lowest-end}
 use Rattle.faults.proofs.outside_delay.Statement.{statement}
 use Rattle.faults.proofs.outside_delay.Tie as tie
 

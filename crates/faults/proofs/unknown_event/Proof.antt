@@ -6,7 +6,7 @@ use lib.ListN.{length}
 use borrow.Author.Needs.{needs}
 use borrow.Author.Tests.{ltb-true, ltb-false}
 use Rattle.faults.specs.Faults.{EndsKnown}
-use Rattle.faults.proofs.Lowest.{Passed, passed-none, passed-more, lowest-here, lowest-end}
+use Rattle.verdicts.proofs.Searches.{Passed, passed-none, passed-more, lowest-here, lowest-end}
 use Rattle.faults.proofs.unknown_event.Statement.{statement}
 use Rattle.faults.proofs.unknown_event.Tie as tie
 

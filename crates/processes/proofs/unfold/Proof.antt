@@ -6,8 +6,8 @@ use lib.ListN.{length}
 use denote.Ref.{now}
 use borrow.Author.Needs.{needs}
 use Rattle.processes.specs.Process.{ProcessGraph, processOf, templates}
-use Rattle.processes.specs.Unfolding.{ShortLists, Answered}
-use Rattle.processes.specs.Checks.{ProcessKept}
+use Rattle.processes.specs.Unfolding.{ShortRuleLists, UnfoldingAnswered}
+use Rattle.processes.specs.Inner.Checks.{ProcessKept}
 use Rattle.processes.proofs.Verdicts.{kept-enough, some-short, shortest, answered-short}
 use Rattle.processes.proofs.Writing.{lists-refused, lists-written}
 use Rattle.processes.proofs.unfold.Statement.{statement}
@@ -18,10 +18,10 @@ graph a = processOf (a .args .p) (now (a .args .sources)) (now (a .args .targets
 
 -- the answer, whether or not it is a refusal
 answered : (c : tie.After-check-process) →
-    Answered
+    UnfoldingAnswered
     (graph (c .before .before .before .before .before .before .before))
     (c .before .before .before .before .before .before .before .args .copies)
-    (ShortLists (graph (c .before .before .before .before .before .before .before)) (c .before .before .before .before .before .before .before .args .copies) (now (c .before .before .before .before .before .before .before .args .out-sources)) (now (c .before .before .before .before .before .before .before .args .out-targets)) (now (c .before .before .before .before .before .before .before .args .out-leasts)) (now (c .before .before .before .before .before .before .before .args .out-mosts)))
+    (ShortRuleLists (graph (c .before .before .before .before .before .before .before)) (c .before .before .before .before .before .before .before .args .copies) (now (c .before .before .before .before .before .before .before .args .out-sources)) (now (c .before .before .before .before .before .before .before .args .out-targets)) (now (c .before .before .before .before .before .before .before .args .out-leasts)) (now (c .before .before .before .before .before .before .before .args .out-mosts)))
     (c .check-process .result)
 answered c =
     let f = c .before .fewest .ensures in

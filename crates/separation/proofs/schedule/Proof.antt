@@ -13,7 +13,8 @@ use Rattle.graphs.specs.Graph.{Graph, graphOf}
 use Rattle.separation.specs.Analysis.{InputKept}
 use Rattle.separation.proofs.Arranging.{sized-up}
 use Rattle.separation.proofs.Filling.{rule-timed}
-use Rattle.separation.proofs.Exact.{first-long, second-long, answered-short, answered-refused, answered-analysed, lists-refused, lists-written}
+use Rattle.sequences.proofs.Lengths.{first-long, second-long}
+use Rattle.separation.proofs.Exact.{answered-short, answered-refused, answered-analysed, lists-refused, lists-written}
 use Rattle.separation.proofs.schedule.Statement.{statement}
 use Rattle.separation.proofs.schedule.Tie as tie
 

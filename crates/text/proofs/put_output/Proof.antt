@@ -6,7 +6,7 @@ use borrow.Author.Needs.{needs}
 use denote.Ref.{now}
 use Rattle.text.proofs.Handed.{Handed, handed, few-taken}
 use Rattle.text.proofs.Places.{read-small, graph-small}
-use Rattle.text.proofs.PairOutput.{read-refused-put, refused-put, table-put}
+use Rattle.text.proofs.PairOutput.{read-refused-put, read-alone, refused-put, table-put}
 use Rattle.text.proofs.put_output.Statement.{statement}
 use Rattle.text.proofs.put_output.Tie as tie
 
@@ -72,14 +72,14 @@ slice-aggregate-fill-table-5 : tie.Need-slice-aggregate-fill-table-5
 slice-aggregate-fill-table-5 c = search needs
 
 fill-table-requires : tie.Need-fill-table-requires
-fill-table-requires c κs =
-    let h = handed-on (c .before .before .before .before .before) in
-    (h .some, h .few, few-taken _ (h .few-rows), refl {a = 4096})
+fill-table-requires c κs = search needs
 
 put-refusal-requires-2 : tie.Need-put-refusal-requires-2
 put-refusal-requires-2 c κs =
     let h = handed-on (c .before .before .before .before .before .before .before .before .before .before) in
-    let small = graph-small (h .few) (few-taken _ (h .few-rows)) (c .before .before .before .before .fill-table .ensures .1 .verdict) in
+    let read = c .before .before .before .before .before .before .before .before .before .before .before .before .before .before .before .before .read-rules .ensures in
+    let alone = read-alone (read .1) (read .0) (refl {a = 4096}) (c .before .before .before .before .before .before .before .before .before .before .if1 .left) (c .before .before .before .before .fill-table .ensures) in
+    let small = graph-small (h .few) (few-taken _ (h .few-rows)) alone in
     (c .before .before .before .before .before .before .before .before .before .before .before .before .before .before .before .before .before .before .before .before .before .before .before .pre, small .number, small .place)
 
 same-length-2 : tie.Need-same-length-2
@@ -88,7 +88,7 @@ same-length-2 c = search needs
 returns-2 : tie.Need-returns-2
 returns-2 c =
     let read = c .before .before .before .before .before .before .before .before .before .before .before .before .before .before .before .before .before .before .before .read-rules .ensures in
-    refused-put (read .1) (read .0) (c .before .before .before .before .before .before .before .before .before .before .before .before .before .if1 .left) (c .before .before .before .before .before .before .before .fill-table .ensures .1) (c .before .before .before .before .if2 .taken) (c .before .before .put-refusal2 .ensures)
+    refused-put (read .1) (read .0) (refl {a = 4096}) (c .before .before .before .before .before .before .before .before .before .before .before .before .before .if1 .left) (c .before .before .before .before .before .before .before .fill-table .ensures) (c .before .before .before .before .if2 .taken) (c .before .before .put-refusal2 .ensures)
 
 slice-aggregate-put-pairs : tie.Need-slice-aggregate-put-pairs
 slice-aggregate-put-pairs c = search needs
@@ -97,7 +97,7 @@ put-pairs-requires : tie.Need-put-pairs-requires
 put-pairs-requires c κs =
     let filled = c .before .before .before .before .before .fill-table .ensures in
     let z = c .before .before .if2 .left in
-    ((c .before .before .before .before .before .before .before .before .before .before .before .before .before .before .before .before .before .before .before .before .before .before .before .before .pre, handed-on (c .before .before .before .before .before .before .before .before .before .before .before) .few, filled .0), (_, refl, filled .1 .graph z, filled .1 .filled z))
+    ((c .before .before .before .before .before .before .before .before .before .before .before .before .before .before .before .before .before .before .before .before .before .before .before .before .pre, handed-on (c .before .before .before .before .before .before .before .before .before .before .before) .few, filled .others z .same-length), (_, refl, filled .graph z, filled .filled z))
 
 same-length-3 : tie.Need-same-length-3
 same-length-3 c = search needs
@@ -105,7 +105,7 @@ same-length-3 c = search needs
 returns-3 : tie.Need-returns-3
 returns-3 c =
     let read = c .before .before .before .before .before .before .before .before .before .before .before .before .before .before .before .before .before .before .before .before .read-rules .ensures in
-    table-put (read .1) (read .0) (c .before .before .before .before .before .before .before .before .before .before .before .before .before .before .if1 .left) (c .before .before .before .before .before .before .before .before .fill-table .ensures .1) (c .before .before .before .before .before .if2 .left) (c .before .before .put-pairs .ensures)
+    table-put (read .1) (read .0) (refl {a = 4096}) (c .before .before .before .before .before .before .before .before .before .before .before .before .before .before .if1 .left) (c .before .before .before .before .before .before .before .before .fill-table .ensures) (c .before .before .before .before .before .if2 .left) (c .before .before .put-pairs .ensures)
 
 pub put-output-spec : {M : Type 1} → statement M
 put-output-spec =

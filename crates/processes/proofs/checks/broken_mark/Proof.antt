@@ -7,8 +7,8 @@ use native.Mathlib.Decide.{ℕ-discrete}
 use native.Mathlib.Omega.{arith}
 use lib.ListN.{length, getD}
 use borrow.Author.Needs.{needs}
-use Rattle.processes.specs.Checks.{MarkKept, MarkBroken}
-use Rattle.faults.proofs.Lowest.{Passed, passed-none, passed-more, lowest-here, lowest-end}
+use Rattle.processes.specs.Inner.Checks.{MarkKept, MarkBroken}
+use Rattle.verdicts.proofs.Searches.{Passed, passed-none, passed-more, lowest-here, lowest-end}
 use Rattle.processes.proofs.checks.broken_mark.Statement.{statement}
 use Rattle.processes.proofs.checks.broken_mark.Tie as tie
 

@@ -5,16 +5,16 @@ use mathlib.Core.Bool.{true, false}
 use Prim.Native.Nat.{ℕ, _+_, _*_, _<_, _≤_}
 use native.Mathlib.Omega.{arith}
 use Rattle.processes.specs.Process.{ProcessGraph, templates}
-use Rattle.processes.specs.Unfolding.{CountsOutside, no-events, no-copies, many-occurrences, many-rules, targets-differ, leasts-differ, mosts-differ, marks-differ}
-use Rattle.processes.specs.Checks.{CountsKept, CountsChecked}
+use Rattle.processes.specs.Unfolding.{ProcessCountsOutside, no-events, no-copies, many-occurrences, many-rules, targets-differ, leasts-differ, mosts-differ, marks-differ}
+use Rattle.processes.specs.Inner.Checks.{ProcessCountsKept, ProcessCountsChecked}
 use Rattle.processes.proofs.Products.{many, few}
 use Rattle.processes.proofs.checks.counts_kept.Statement.{statement}
 use Rattle.processes.proofs.checks.counts_kept.Tie as tie
 
-refused : (g : ProcessGraph) (K : ℕ) → CountsOutside g K → CountsChecked g K false
+refused : (g : ProcessGraph) (K : ℕ) → ProcessCountsOutside g K → ProcessCountsChecked g K false
 refused g K h = record { kept = λ e. absurd (let z : _≡_ {A = ℕ} 0 1 = cc in omega arith); outside = λ _. h }
 
-passed : (g : ProcessGraph) (K : ℕ) → CountsKept g K → CountsChecked g K true
+passed : (g : ProcessGraph) (K : ℕ) → ProcessCountsKept g K → ProcessCountsChecked g K true
 passed g K h = record { kept = λ _. h; outside = λ e. absurd (let z : _≡_ {A = ℕ} 0 1 = cc in omega arith) }
 
 large-events : (p K : ℕ) → 0 < K → 1024 ≤ p → 1024 < 1 + p * K

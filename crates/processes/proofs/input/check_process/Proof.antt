@@ -8,9 +8,9 @@ use denote.Ref.{now}
 use borrow.Author.Needs.{needs}
 use borrow.Author.Tests.{not-true, not-false}
 use Rattle.faults.specs.Faults.{EndsKnown, InsideDelays}
-use Rattle.faults.proofs.Lowest.{all-good, as-long}
+use Rattle.verdicts.proofs.Searches.{all-good, as-long}
 use Rattle.processes.specs.Process.{ProcessGraph, processOf, templates, least, most}
-use Rattle.processes.specs.Checks.{CountsKept, MarkKept}
+use Rattle.processes.specs.Inner.Checks.{ProcessCountsKept, MarkKept}
 use Rattle.processes.proofs.Verdicts.{lowest-unknown, lowest-outside, lowest-broken, process-1, process-2, process-3, process-7, refusal-checked, kept-checked}
 use Rattle.processes.proofs.input.check_process.Statement.{statement}
 use Rattle.processes.proofs.input.check_process.Tie as tie
@@ -20,7 +20,7 @@ use Rattle.processes.proofs.input.check_process.Tie as tie
 abbrev graph : tie.Start → ProcessGraph
 graph a = processOf (a .args .p) (now (a .args .sources)) (now (a .args .targets)) (now (a .args .leasts)) (now (a .args .mosts)) (now (a .args .marks))
 
-counts : (c : tie.Else1) → CountsKept (graph (c .before .before .before .before .before)) (c .before .before .before .before .before .args .copies)
+counts : (c : tie.Else1) → ProcessCountsKept (graph (c .before .before .before .before .before)) (c .before .before .before .before .before .args .copies)
 counts c = c .before .counts-kept .ensures .kept (not-false _ (c .if1 .left))
 
 known : (c : tie.Else3) (j : ℕ) → j < templates (graph (c .before .before .before .before .before .before .before .before)) → EndsKnown (graph (c .before .before .before .before .before .before .before .before) .events) (graph (c .before .before .before .before .before .before .before .before) .sources) (graph (c .before .before .before .before .before .before .before .before) .targets) j

@@ -5,14 +5,14 @@ use native.Mathlib.Omega.{arith}
 use lib.IntN.{ℤ, pos}
 use mir.Syntax.{w64}
 use mir.ValLaws.{toZ-ofZ}
-use Rattle.processes.specs.Writing.{DelayAt}
+use Rattle.processes.specs.Inner.Writing.{InstanceDelay}
 use Rattle.processes.proofs.rules.delay_at.Statement.{statement}
 use Rattle.processes.proofs.rules.delay_at.Tie as tie
 
-unchanged : (k m : ℕ) (d x : ℤ) → x ≡ d → (m ≡ 1 → k ≡ 0 → ⊥) → DelayAt k m d x
+unchanged : (k m : ℕ) (d x : ℤ) → x ≡ d → (m ≡ 1 → k ≡ 0 → ⊥) → InstanceDelay k m d x
 unchanged k m d x e n = record { together = λ _. e; onward = λ _ _ _. e; start = λ one zero. absurd (n one zero) }
 
-started : (k m : ℕ) (d : ℤ) → m ≡ 1 → k ≤ 0 → DelayAt k m d (pos 0)
+started : (k m : ℕ) (d : ℤ) → m ≡ 1 → k ≤ 0 → InstanceDelay k m d (pos 0)
 started k m d n z = record { together = λ e. absurd (let no : ⊥ = omega arith in no); onward = λ b _ e. absurd (let no : ⊥ = omega arith in no); start = λ _ _. refl }
 
 returns : tie.Need-returns

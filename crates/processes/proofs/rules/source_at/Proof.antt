@@ -4,7 +4,7 @@ use Prim.Native.Nat.{ℕ, suc, _+_, _*_, _-_, _<_, _≤_}
 use native.Mathlib.Nat.{mul-le-mul-right}
 use native.Mathlib.Omega.{arith}
 use borrow.Author.Needs.{needs}
-use Rattle.processes.specs.Writing.{SourceAt}
+use Rattle.processes.specs.Inner.Writing.{InstanceSource}
 use Rattle.processes.proofs.rules.source_at.Statement.{statement}
 use Rattle.processes.proofs.rules.source_at.Tie as tie
 
@@ -14,7 +14,7 @@ copy-before k p i l =
     let m : (k - 1) * p ≤ k * p = mul-le-mul-right p h in
     omega (arith, m)
 
-onward-from : (p k m i x : ℕ) → (m ≡ 0 → ⊥) → (k ≡ 0 → ⊥) → x ≡ 1 + (k - 1) * p + i → SourceAt p k m i x
+onward-from : (p k m i x : ℕ) → (m ≡ 0 → ⊥) → (k ≡ 0 → ⊥) → x ≡ 1 + (k - 1) * p + i → InstanceSource p k m i x
 onward-from p k m i x n z e =
     record {
       together = λ h. absurd (n h);

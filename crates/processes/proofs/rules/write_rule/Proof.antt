@@ -6,12 +6,12 @@ use mir.Syntax.{w64}
 use mir.Val.{SFits, toZ, ofZ}
 use mir.ValLaws.{toZ-ofZ}
 use borrow.Author.Needs.{needs, sfits-of}
-use Rattle.processes.specs.Writing.{DelayAt}
+use Rattle.processes.specs.Inner.Writing.{InstanceDelay}
 use Rattle.processes.proofs.rules.write_rule.Statement.{statement}
 use Rattle.processes.proofs.rules.write_rule.Tie as tie
 
 -- the delay that is handed over and the one that is written are read back from their bits
-held : (k m : ℕ) (d x : ℤ) → SFits w64 d → SFits w64 x → DelayAt k m (toZ w64 (ofZ w64 d)) x → DelayAt k m d (toZ w64 (ofZ w64 x))
+held : (k m : ℕ) (d x : ℤ) → SFits w64 d → SFits w64 x → InstanceDelay k m (toZ w64 (ofZ w64 d)) x → InstanceDelay k m d (toZ w64 (ofZ w64 x))
 held k m d x e f h = rw (toZ-ofZ w64 x f) (rw (toZ-ofZ w64 d e) at h)
 
 mul-mark : tie.Need-mul-mark

@@ -5,13 +5,13 @@ use native.Mathlib.Omega.{arith}
 use lib.ListN.{length}
 use denote.Ref.{now}
 use Rattle.processes.specs.Process.{ProcessGraph, processOf}
-use Rattle.processes.proofs.Writing.{Writing, Turn, turn-kept, writing-none, writing-more, writing-done}
+use Rattle.processes.proofs.Writing.{RulesWriting, TemplateTurn, turn-kept, writing-none, writing-more, writing-done}
 use Rattle.processes.proofs.rules.write_rules.Statement.{statement}
 use Rattle.processes.proofs.rules.write_rules.Tie as tie
 
 abbrev Inv-loop : tie.InvT-loop
 Inv-loop p copies sources targets leasts mosts marks out-sources₀ out-targets₀ out-leasts₀ out-mosts₀ templates rules i₀ k₀ j₀ out-sources out-targets out-leasts out-mosts i k j =
-    Writing (processOf p sources targets leasts mosts marks) copies out-sources₀ out-targets₀ out-leasts₀ out-mosts₀ out-sources out-targets out-leasts out-mosts i k j
+    RulesWriting (processOf p sources targets leasts mosts marks) copies out-sources₀ out-targets₀ out-leasts₀ out-mosts₀ out-sources out-targets out-leasts out-mosts i k j
 
 abbrev μ-loop : tie.MeasureT-loop
 μ-loop p copies sources targets leasts mosts marks out-sources₀ out-targets₀ out-leasts₀ out-mosts₀ templates rules i₀ k₀ j₀ out-sources out-targets out-leasts out-mosts i k j = length sources * copies - i
@@ -20,7 +20,7 @@ abbrev graph : tie.Start Inv-loop μ-loop → ProcessGraph
 graph a = processOf (a .args .p) (now (a .args .sources)) (now (a .args .targets)) (now (a .args .leasts)) (now (a .args .mosts)) (now (a .args .marks))
 
 -- where a turn starts
-turn : (c : tie.In-loop Inv-loop μ-loop) → Turn (graph (c .before .before .before .before .before .before .before)) (c .before .loop .k) (c .before .loop .j) (c .before .loop .i)
+turn : (c : tie.In-loop Inv-loop μ-loop) → TemplateTurn (graph (c .before .before .before .before .before .before .before)) (c .before .loop .k) (c .before .loop .j) (c .before .loop .i)
 turn c = turn-kept (c .before .before .before .before .before .before .before .pre .0) (c .before .loop .inv) (c .loop-test .taken)
 
 next-copy : (T k j i : ℕ) → i ≡ k * T + j → j + 1 ≡ T → i + 1 ≡ (k + 1) * T + 0

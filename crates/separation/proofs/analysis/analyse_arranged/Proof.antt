@@ -12,7 +12,7 @@ use Rattle.graphs.specs.Graph.{Graph, graphOf}
 use Rattle.graphs.specs.Path.{Depth}
 use Rattle.graphs.specs.Limits.{EventGraph}
 use Rattle.integers.proofs.Word.{read-back}
-use Rattle.faults.proofs.Lowest.{all-good}
+use Rattle.verdicts.proofs.Searches.{all-good}
 use Rattle.separation.proofs.Arranging.{sources-below, targets-below, arranged-acyclic, path-refused, path-computed}
 use Rattle.separation.proofs.Verdicts.{path-6}
 use Rattle.separation.proofs.Searches.{lowest-not-reached, all-reached}

@@ -5,7 +5,7 @@ use Prim.Native.Nat.{_-_}
 use native.Mathlib.Omega.{arith}
 use lib.ListN.{getD}
 use borrow.Author.Tests.{not-true, not-false}
-use Rattle.faults.proofs.Lowest.{Passed, passed-none, passed-more, lowest-here, lowest-end}
+use Rattle.verdicts.proofs.Searches.{Passed, passed-none, passed-more, lowest-here, lowest-end}
 use Rattle.separation.proofs.checks.lowest_unreached.Statement.{statement}
 use Rattle.separation.proofs.checks.lowest_unreached.Tie as tie
 

@@ -1,7 +1,7 @@
 -- `write_delays` meets its contract: a loop that fills one place for each rule. Assumes nothing.
 use Prim.Native.Nat.{_-_}
 use native.Mathlib.Omega.{arith}
-use lib.IntN.{ℤ, _-ℤ_}
+use lib.IntN.{ℤ, pos, _-ℤ_}
 use lib.Dec.{lit<}
 use lib.ListN.{length}
 use mir.Syntax.{w64}
@@ -12,7 +12,8 @@ use Rattle.integers.specs.Within.{Within}
 use Rattle.integers.proofs.Word.{read-back}
 use Rattle.executions.specs.Steps.{Lesser}
 use Rattle.separation.specs.Lists.{DelayAt, RuleTimed}
-use Rattle.separation.proofs.Filling.{Filling, filling-none, filling-more, filling-done}
+use Rattle.sequences.proofs.Filling.{Filling, filling-none, filling-more}
+use Rattle.separation.proofs.Filling.{list-filled}
 use Rattle.separation.proofs.lists.write_delays.Statement.{statement}
 use Rattle.separation.proofs.lists.write_delays.Tie as tie
 
@@ -37,13 +38,13 @@ written {start} {end} {most} r s e m f h =
     (rw (read-back w64 4100096000 end (lit< tt) e, read-back w64 4100096000 start (lit< tt) s, read-back w64 1001000 most (lit< tt) m) at h)
 
 abbrev Inv-loop : tie.InvT-loop
-Inv-loop sources targets mosts times delays₀ i₀ delays i = Filling (length sources) (DelayAt sources targets mosts times) delays₀ i delays
+Inv-loop sources targets mosts times delays₀ i₀ delays i = Filling (pos 0) (length sources) (DelayAt sources targets mosts times) delays₀ i delays
 
 abbrev μ-loop : tie.MeasureT-loop
 μ-loop sources targets mosts times delays₀ i₀ delays i = length sources - i
 
 loop-holds : tie.Need-loop-holds Inv-loop μ-loop
-loop-holds c = filling-none _ _ _
+loop-holds c = filling-none (pos 0) _ _ _
 
 mul-source : tie.Need-mul-source Inv-loop μ-loop
 mul-source c = record { fits = omega arith }
@@ -102,6 +103,7 @@ loop-again c =
     let b = c .before .before .before .before .before .before in
     let r = timed b in
     filling-more
+    (pos 0)
     _
     _
     _
@@ -117,7 +119,7 @@ same-length : tie.Need-same-length Inv-loop μ-loop
 same-length c = c .before .loop .inv .same-length
 
 returns : tie.Need-returns Inv-loop μ-loop
-returns c = filling-done _ _ _ (c .before .loop .i) _ (c .before .loop .inv) (c .loop-test .left)
+returns c = list-filled _ _ _ (c .before .loop .i) _ (c .before .loop .inv) (c .loop-test .left)
 
 pub write-delays-spec : {M : Type 1} → statement M
 write-delays-spec =

@@ -2,15 +2,17 @@
 use Prim.Native.Nat.{_-_}
 use native.Mathlib.Omega.{arith}
 use lib.Dec.{lit<}
+use lib.IntN.{pos}
 use Rattle.separation.specs.Lists.{TimeAt}
 use mir.Syntax.{w64}
 use Rattle.integers.proofs.Word.{difference-fits, difference-back}
-use Rattle.separation.proofs.Filling.{Filling, filling-none, filling-more, filling-done}
+use Rattle.sequences.proofs.Filling.{Filling, filling-none, filling-more}
+use Rattle.separation.proofs.Filling.{list-filled}
 use Rattle.separation.proofs.lists.write_times.Statement.{statement}
 use Rattle.separation.proofs.lists.write_times.Tie as tie
 
 abbrev Inv-loop : tie.InvT-loop
-Inv-loop n latest times₀ root v₀ times v = Filling n (TimeAt latest) times₀ v times
+Inv-loop n latest times₀ root v₀ times v = Filling (pos 0) n (TimeAt latest) times₀ v times
 
 abbrev μ-loop : tie.MeasureT-loop
 μ-loop n latest times₀ root v₀ times v = n - v
@@ -19,7 +21,7 @@ shared-slice-copy-out-root : tie.Need-shared-slice-copy-out-root Inv-loop μ-loo
 shared-slice-copy-out-root c = omega arith
 
 loop-holds : tie.Need-loop-holds Inv-loop μ-loop
-loop-holds c = filling-none _ _ _
+loop-holds c = filling-none (pos 0) _ _ _
 
 mul-times : tie.Need-mul-times Inv-loop μ-loop
 mul-times c = record { fits = omega arith }
@@ -48,6 +50,7 @@ loop-again : tie.Need-loop-again Inv-loop μ-loop
 loop-again c =
     let near = c .before .before .before .before .pre .1 in
     filling-more
+    (pos 0)
     _
     _
     _
@@ -63,7 +66,7 @@ same-length : tie.Need-same-length Inv-loop μ-loop
 same-length c = c .before .loop .inv .same-length
 
 returns : tie.Need-returns Inv-loop μ-loop
-returns c = filling-done _ _ _ (c .before .loop .v) _ (c .before .loop .inv) (c .loop-test .left)
+returns c = list-filled _ _ _ (c .before .loop .v) _ (c .before .loop .inv) (c .loop-test .left)
 
 pub write-times-spec : {M : Type 1} → statement M
 write-times-spec =

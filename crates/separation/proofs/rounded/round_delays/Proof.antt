@@ -5,19 +5,19 @@ use lib.IntN.{pos}
 use lib.ListN.{length, getD}
 use Rattle.rounding.specs.Rounding.{Down, Up}
 use Rattle.separation.proofs.Outward.{delay-held, written-held}
-use Rattle.separation.proofs.Filling.{Filling, filling-none, filling-more}
+use Rattle.sequences.proofs.Filling.{Filling, filling-none, filling-more}
 use Rattle.separation.proofs.rounded.round_delays.Statement.{statement}
 use Rattle.separation.proofs.rounded.round_delays.Tie as tie
 
 abbrev Inv-loop : tie.InvT-loop
 Inv-loop step leasts mosts low₀ high₀ i₀ low high i =
-    Filling (length leasts) (λ j. Down step (getD leasts j (pos 0))) low₀ i low × Filling (length leasts) (λ j. Up step (getD mosts j (pos 0))) high₀ i high
+    Filling (pos 0) (length leasts) (λ j. Down step (getD leasts j (pos 0))) low₀ i low × Filling (pos 0) (length leasts) (λ j. Up step (getD mosts j (pos 0))) high₀ i high
 
 abbrev μ-loop : tie.MeasureT-loop
 μ-loop step leasts mosts low₀ high₀ i₀ low high i = length leasts - i
 
 loop-holds : tie.Need-loop-holds Inv-loop μ-loop
-loop-holds c = (filling-none _ _ _, filling-none _ _ _)
+loop-holds c = (filling-none (pos 0) _ _ _, filling-none (pos 0) _ _ _)
 
 mul-round-down : tie.Need-mul-round-down Inv-loop μ-loop
 mul-round-down c = record { fits = omega arith }
@@ -68,6 +68,7 @@ loop-again c =
     let down = c .before .before .round-down .ensures in
     let up = c .round-up .ensures in (
       filling-more
+          (pos 0)
           _
           _
           _
@@ -79,6 +80,7 @@ loop-again c =
           (b .loop-test .taken)
           (written-held (Down (start .args .step)) _ _ (near .0) (down .0) (down .1)),
       filling-more
+          (pos 0)
           _
           _
           _

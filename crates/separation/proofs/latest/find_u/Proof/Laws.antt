@@ -18,10 +18,10 @@ use lib.IntN.{ℤ, pos, _+ℤ_}
 use lib.ListN.{length, getD, set, length-set}
 use lib.Seq.{getD-set-same, getD-set-other}
 use Rattle.integers.specs.Within.{Within}
-use Rattle.integers.proofs.Integer.{linear}
 use Rattle.integers.proofs.Word.{within-sum, within-wider}
 use Rattle.graphs.specs.Graph.{Graph, rules, source, target, most, Greatest}
 use Rattle.graphs.specs.Limits.{EventGraph, CountsKept}
+use Rattle.graphs.proofs.Greatest.{greatest-same}
 use Rattle.executions.specs.Steps.{M, Capped, with-m, without-m, UOf, U}
 use Rattle.separation.specs.Promise.{at}
 use Rattle.separation.specs.Order.{Order}
@@ -42,15 +42,6 @@ pub record Passed (g : Graph) (order : List ℕ) (s k : ℕ) (u : List ℤ) : Ty
 
 -- ---- U from another u
 
-greatest-agrees :
-    {g : Graph} {v : ℕ} {x : ℤ} (f h : ℕ → ℤ) → ((i : ℕ) → i < rules g → target g i ≡ v → f i ≡ h i) → Greatest g v f x → Greatest g v h x
-greatest-agrees f h same greatest =
-    let (i, l, to, e) = greatest .reached in
-    record {
-      reached = (i, l, to, sym (same i l to) ∙ e);
-      bound = λ j k leads. omega (linear, same j k leads, greatest .bound j k leads);
-    }
-
 u-agrees :
     {g : Graph} {s w : ℕ} {x y : ℤ} (f h : ℕ → ℤ) → ((i : ℕ) → i < rules g → target g i ≡ w → f (source g i) ≡ h (source g i)) → x ≡ y →
     UAt g s f w x → UAt g s h w y
@@ -59,7 +50,7 @@ u-agrees {g} {s} {w} f h same e found = subst (UAt g s h w) e (of found)
     of : {x : ℤ} → UAt g s f w x → UAt g s h w x
     of (at-root root m) = at-root root m
     of (at-other other a greatest capped) =
-        at-other other a (greatest-agrees _ _ (λ i l to. ap (λ (z : ℤ). z +ℤ most g i) (same i l to)) greatest) capped
+        at-other other a (greatest-same greatest (λ i l to. ap (λ (z : ℤ). z +ℤ most g i) (same i l to))) capped
 
 -- ---- the pass
 

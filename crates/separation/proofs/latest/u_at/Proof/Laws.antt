@@ -17,6 +17,7 @@ use lib.ListN.{length, getD}
 use Rattle.integers.proofs.Integer.{linear}
 use Rattle.graphs.specs.Graph.{Graph, graphOf, source, most, Greatest}
 use Rattle.graphs.specs.Limits.{EventGraph, CountsKept}
+use Rattle.graphs.proofs.Limits.{sound-of}
 use Rattle.graphs.proofs.Greatest.{incoming}
 use Rattle.executions.specs.Steps.{M, with-m, without-m}
 use Rattle.separation.specs.Passes.{MFound}
@@ -26,7 +27,7 @@ module _ (n : ℕ) (ss ts : List ℕ) (ds Ds u : List ℤ) (v : ℕ) (graph : Ev
   pub arrivals : v < n → (v ≡ 0 → ⊥) → length u ≡ 1024 → SourcesWithin ss ts u v → Arrivals ss ts Ds u v
   arrivals l other size small =
       let counts : CountsKept (graphOf n ss ts ds Ds) = graph .sized .counts in
-      let (i, h, to) = incoming graph l other in
+      let (i, h, to) = incoming (sound-of graph) l other in
       record { targets-match = counts .targets-match; some = (i, (omega arith), to); each = addable }
     where
       addable : (i : ℕ) → i < length ts → getD ts i 0 ≡ v → Addable ss Ds u i

@@ -11,8 +11,9 @@ use native.Mathlib.Decide.{ℕ-discrete}
 use native.Mathlib.Omega.{arith}
 use lib.ListN.{getD, set, replicate, length-set, length-replicate, getD-replicate}
 use lib.Seq.{getD-set-same, getD-set-other}
-use Rattle.separation.specs.Placing.{Counted, none, hit, miss, Tally}
-use Rattle.separation.proofs.Counting.{counted-most}
+use Rattle.sequences.specs.Counted.{Counted, none, hit, miss}
+use Rattle.sequences.proofs.Counting.{counted-most}
+use Rattle.separation.specs.Placing.{Tally}
 
 pub tally-none : (ts waiting : List ℕ) → waiting ≡ replicate 1024 0 → Tally ts 0 waiting
 tally-none ts waiting e =

@@ -17,8 +17,9 @@ use Rattle.graphs.specs.Path.{HasCycle}
 use Rattle.graphs.proofs.Cycle.{backward-closed-cycle}
 use Rattle.separation.specs.Order.{Order, Ordered}
 use Rattle.separation.specs.Passes.{EndsBelow}
-use Rattle.separation.specs.Placing.{Counted, RulesKept, Turn}
-use Rattle.separation.proofs.Counting.{counted-none, counted-some}
+use Rattle.sequences.specs.Counted.{Counted}
+use Rattle.sequences.proofs.Counting.{counted-none, counted-some}
+use Rattle.separation.specs.Placing.{RulesKept, Turn}
 
 pub below-wider : {n : ℕ} {keys : List ℕ} → n ≤ 1024 → EndsBelow n keys → EndsBelow 1024 keys
 below-wider l b = record { below = λ i k. omega (arith, b .below i k) }

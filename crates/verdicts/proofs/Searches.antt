@@ -13,8 +13,7 @@ use mathlib.Core.Path.{_≡_, subst}
 use Prim.Native.Nat.{ℕ, _+_, _<_, _≤_, zero-le, min}
 use native.Mathlib.Omega.{arith}
 use borrow.Author.Count.{below-none, below-more}
-use Rattle.graphs.specs.Refusal.{Lowest}
-use Rattle.faults.specs.Faults.{LowestOr}
+use Rattle.verdicts.specs.Verdict.{Lowest, LowestOr}
 
 pub record Passed (k : ℕ) (Good : ℕ → Type 0) (i : ℕ) : Type 0 where
   pub within : i ≤ k

@@ -10,7 +10,7 @@ use mathlib.Core.Path.{_≡_, refl, sym, ap, subst}
 use Prim.Native.Nat.{ℕ, zero, suc, _<_, _≤_}
 use native.Mathlib.Decide.{ℕ-discrete}
 use native.Mathlib.Omega.{arith}
-use Rattle.separation.specs.Placing.{Counted, none, hit, miss}
+use Rattle.sequences.specs.Counted.{Counted, none, hit, miss}
 
 pub counted-most : {P : ℕ → Type 0} {k c : ℕ} → Counted P k c → c ≤ k
 counted-most none = omega arith

@@ -9,7 +9,7 @@ use mathlib.Core.Path.{_≡_, sym, _∙_}
 use Prim.Native.Nat.{ℕ, zero, suc, _≤_, _<_}
 use native.Mathlib.Decide.{ℕ-discrete}
 use native.Mathlib.Omega.{arith}
-use Rattle.graphs.proofs.Below.{below-next}
+use Rattle.sequences.proofs.Below.{below-next}
 
 pub record Twice (f : ℕ → ℕ) (n : ℕ) : Type 0 where
   pub former : ℕ

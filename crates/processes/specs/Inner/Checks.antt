@@ -1,9 +1,9 @@
 -- What the checks on a process graph find, and what holds once they have passed.
---     CountsKept g K              == the counts of g and K are within their limits, and the five lists have one entry for each template
---     CountsChecked g K b         == b is true and the counts are kept, or b is false and one is outside
+--     ProcessCountsKept g K          == the counts of g and K are within their limits, and the five lists have one entry for each template
+--     ProcessCountsChecked g K b     == b is true and the counts are kept, or b is false and one is outside
 --     MarkKept ms j, MarkBroken ms j == the offset mark of template j is 0 or 1, or neither
---     ProcessKept g K n           == nothing is refused: the counts, the events and the marks are kept, and n places are enough
---     ProcessChecked g K n a      == a is the answer where the shortest lent list has n places
+--     ProcessKept g K n              == nothing is refused: the counts, the events and the marks are kept, and n places are enough
+--     ProcessChecked g K n a         == a is the answer where the shortest lent list has n places
 -- Templates with marks ms, K copies. Events and delays are checked as those of a graph, by the crate faults. Assumes nothing.
 use mathlib.Core.Path.{_≡_}
 use mathlib.Core.Bool.{Bool, true, false}
@@ -14,9 +14,9 @@ use lib.ListN.{length, getD}
 use Rattle.faults.specs.Faults.{EndsKnown}
 use Rattle.processes.specs.declared.Unfolded.{Unfolded}
 use Rattle.processes.specs.Process.{ProcessGraph, templates}
-use Rattle.processes.specs.Unfolding.{CountsOutside, Answered}
+use Rattle.processes.specs.Unfolding.{ProcessCountsOutside, UnfoldingAnswered}
 
-pub record CountsKept (g : ProcessGraph) (K : ℕ) : Type 0 where
+pub record ProcessCountsKept (g : ProcessGraph) (K : ℕ) : Type 0 where
   pub some-event : 0 < g .events
   pub some-copy : 0 < K
   pub few-occurrences : 1 + g .events * K ≤ 1024
@@ -26,9 +26,9 @@ pub record CountsKept (g : ProcessGraph) (K : ℕ) : Type 0 where
   pub mosts-match : length (g .mosts) ≡ templates g
   pub marks-match : length (g .marks) ≡ templates g
 
-pub record CountsChecked (g : ProcessGraph) (K : ℕ) (b : Bool) : Type 0 where
-  pub kept : b ≡ true → CountsKept g K
-  pub outside : b ≡ false → CountsOutside g K
+pub record ProcessCountsChecked (g : ProcessGraph) (K : ℕ) (b : Bool) : Type 0 where
+  pub kept : b ≡ true → ProcessCountsKept g K
+  pub outside : b ≡ false → ProcessCountsOutside g K
 
 abbrev pub MarkKept : List ℕ → ℕ → Type 0
 MarkKept ms j = (getD ms j 0 ≡ 0) ⊎ (getD ms j 0 ≡ 1)
@@ -38,11 +38,11 @@ pub record MarkBroken (ms : List ℕ) (j : ℕ) : Type 0 where
   pub not-one : getD ms j 0 ≡ 1 → ⊥
 
 pub record ProcessKept (g : ProcessGraph) (K n : ℕ) : Type 0 where
-  pub counts : CountsKept g K
+  pub counts : ProcessCountsKept g K
   pub known : (j : ℕ) → j < templates g → EndsKnown (g .events) (g .sources) (g .targets) j
   pub marked : (j : ℕ) → j < templates g → MarkKept (g .marks) j
   pub room : templates g * K ≤ n
 
 pub record ProcessChecked (g : ProcessGraph) (K n : ℕ) (a : Unfolded) : Type 0 where
-  pub answered : Answered g K (n < templates g * K) a
+  pub answered : UnfoldingAnswered g K (n < templates g * K) a
   pub kept : a .refusal ≡ 0 → ProcessKept g K n

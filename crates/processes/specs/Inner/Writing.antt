@@ -1,8 +1,8 @@
 -- What the writing of one rule, and of all rules, leaves in the four lent lists.
---     SourceAt p k m i x       == x is the number of the source of the rule that a template with mark m and source i gives at k
---     DelayAt k m d x          == x is the delay of that rule where the template's is d
---     RuleWritten g k j i …    == the four lists hold the rule of template j at k in place i, and else what they held
---     RulesWritten g K …       == they hold all rules, in order, and what they held beyond
+--     InstanceSource p k m i x  == x is the number of the source of the rule that a template with mark m and source i gives at k
+--     InstanceDelay k m d x     == x is the delay of that rule where the template's is d
+--     InstanceWritten g k j i … == the four lists hold the rule of template j at k in place i, and else what they held
+--     InstancesWritten g K …    == they hold all rules, in order, and what they held beyond
 -- ss₀, ts₀, ds₀, Ds₀ are the lists before, ss, ts, ds, Ds after. Assumes nothing.
 use mathlib.Core.Path.{_≡_}
 use mathlib.Core.List.{List}
@@ -13,17 +13,17 @@ use Rattle.graphs.specs.Graph.{graphOf}
 use Rattle.processes.specs.Process.{ProcessGraph, templates, source, target, least, most, mark, occurrence}
 use Rattle.processes.specs.Unfolding.{RuleAt}
 
-pub record SourceAt (p k m i x : ℕ) : Type 0 where
+pub record InstanceSource (p k m i x : ℕ) : Type 0 where
   pub together : m ≡ 0 → x ≡ 1 + k * p + i
   pub onward : (before : ℕ) → m ≡ 1 → k ≡ suc before → x ≡ 1 + before * p + i
   pub start : m ≡ 1 → k ≡ 0 → x ≡ 0
 
-pub record DelayAt (k m : ℕ) (d x : ℤ) : Type 0 where
+pub record InstanceDelay (k m : ℕ) (d x : ℤ) : Type 0 where
   pub together : m ≡ 0 → x ≡ d
   pub onward : (before : ℕ) → m ≡ 1 → k ≡ suc before → x ≡ d
   pub start : m ≡ 1 → k ≡ 0 → x ≡ pos 0
 
-pub record RuleWritten (g : ProcessGraph) (k j i : ℕ) (ss₀ ts₀ : List ℕ) (ds₀ Ds₀ : List ℤ) (ss ts : List ℕ) (ds Ds : List ℤ) : Type 0 where
+pub record InstanceWritten (g : ProcessGraph) (k j i : ℕ) (ss₀ ts₀ : List ℕ) (ds₀ Ds₀ : List ℤ) (ss ts : List ℕ) (ds Ds : List ℤ) : Type 0 where
   pub s : ℕ
   pub t : ℕ
   pub d : ℤ
@@ -32,12 +32,12 @@ pub record RuleWritten (g : ProcessGraph) (k j i : ℕ) (ss₀ ts₀ : List ℕ)
   pub targets-set : ts ≡ set ts₀ i t
   pub leasts-set : ds ≡ set ds₀ i d
   pub mosts-set : Ds ≡ set Ds₀ i D
-  pub source-at : SourceAt (g .events) k (mark g j) (source g j .0) s
+  pub source-at : InstanceSource (g .events) k (mark g j) (source g j .0) s
   pub target-at : t ≡ occurrence g k (target g j) .0
-  pub least-at : DelayAt k (mark g j) (least g j) d
-  pub most-at : DelayAt k (mark g j) (most g j) D
+  pub least-at : InstanceDelay k (mark g j) (least g j) d
+  pub most-at : InstanceDelay k (mark g j) (most g j) D
 
-pub record RulesWritten (g : ProcessGraph) (K : ℕ) (ss₀ ts₀ : List ℕ) (ds₀ Ds₀ : List ℤ) (ss ts : List ℕ) (ds Ds : List ℤ) : Type 0 where
+pub record InstancesWritten (g : ProcessGraph) (K : ℕ) (ss₀ ts₀ : List ℕ) (ds₀ Ds₀ : List ℤ) (ss ts : List ℕ) (ds Ds : List ℤ) : Type 0 where
   pub each : (k j : ℕ) → k < K → j < templates g → RuleAt g k j (graphOf (1 + g .events * K) ss ts ds Ds) (k * templates g + j)
   pub sources-beyond : drop (templates g * K) ss ≡ drop (templates g * K) ss₀
   pub targets-beyond : drop (templates g * K) ts ≡ drop (templates g * K) ts₀

@@ -6,10 +6,10 @@ use lib.Dec.{lit<}
 use denote.Ref.{now}
 use mir.Syntax.{w64}
 use Rattle.integers.proofs.Word.{difference-fits, difference-back}
-use Rattle.text.specs.TableRows.{RowCopied}
-use Rattle.text.proofs.Tabling.{copied-none, copied-more}
-use Rattle.text.proofs.table.copy_row.Statement.{statement}
-use Rattle.text.proofs.table.copy_row.Tie as tie
+use Rattle.table.specs.Rows.{RowCopied}
+use Rattle.table.proofs.Rows.{copied-none, copied-more}
+use Rattle.table.proofs.copy_row.Statement.{statement}
+use Rattle.table.proofs.copy_row.Tie as tie
 
 abbrev Inv-loop : tie.InvT-loop
 Inv-loop n from times table₀ base row v₀ table v = (v ≤ n) × RowCopied v from times table₀ table

@@ -1,8 +1,8 @@
 -- `fill_row` meets its contract: what the analysis and `copy_row` promise, put together. Assumes nothing.
 use borrow.Author.Needs.{needs}
-use Rattle.text.proofs.Tabling.{times-small, row-refused, row-answered}
-use Rattle.text.proofs.table.fill_row.Statement.{statement}
-use Rattle.text.proofs.table.fill_row.Tie as tie
+use Rattle.table.proofs.Rows.{times-small, row-refused, row-answered}
+use Rattle.table.proofs.fill_row.Statement.{statement}
+use Rattle.table.proofs.fill_row.Tie as tie
 
 slice-aggregate-schedule : tie.Need-slice-aggregate-schedule
 slice-aggregate-schedule c = search needs
@@ -37,7 +37,7 @@ returns-2 : tie.Need-returns-2
 returns-2 c =
     let start = c .before .before .before .before .before .before .before .before .before .before .before .before .before in
     let asked = c .before .before .before .before .before .before .before .before .schedule .ensures in
-    row-answered (start .pre .0) (asked .0) (asked .1) (start .pre .1) (start .pre .2) (c .before .copy-row .ensures)
+    row-answered (start .pre .0) (asked .0) (asked .1) (start .pre .1) (start .pre .2) (c .before .before .before .before .if1 .left) (c .before .copy-row .ensures)
 
 pub fill-row-spec : {M : Type 1} → statement M
 fill-row-spec =

@@ -1,0 +1,2 @@
+-- Lists and counting: what is said of numbers and lists alone.
+pub mod Counted

@@ -1,0 +1,1 @@
+// Lists and counting: definitions and laws only. See specs/ and proofs/.

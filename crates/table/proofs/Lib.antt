@@ -1,0 +1,3 @@
+-- The laws of the table.
+pub mod Rows
+pub mod Unique

@@ -1,0 +1,1 @@
+// Verdicts: definitions and laws only. See specs/ and proofs/.
