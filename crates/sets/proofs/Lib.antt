@@ -6,5 +6,12 @@ pub mod Covers
 pub mod Values
 pub mod Operations
 pub mod Selection
-pub mod Pruning
+pub mod Insertion
 pub mod Points
+pub mod Holding
+pub mod Candidates
+pub mod Choosing
+pub mod Scanning
+pub mod Keeping
+pub mod Reaching
+pub mod Promises

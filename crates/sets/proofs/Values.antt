@@ -58,7 +58,7 @@ family-value-unique {y = y} {z = z} h k =
 
 -- ---- there is one
 
-one-value : {p : Pair} (x y : ℤ) → value p (number x) ≡ number y → SetValue (p ∷ []) x y
+pub one-value : {p : Pair} (x y : ℤ) → value p (number x) ≡ number y → SetValue (p ∷ []) x y
 one-value {p} x y e = record { reached = (p, here refl, e); bound = λ q m. by q (List·Memᴰ·cases-cons m) }
   where
     by : (q : Pair) → (q ≡ p) ⊎ (q ∈ []) → value q (number x) ≤ᴸ number y

@@ -3,3 +3,6 @@ pub mod Limit
 pub mod Pair
 pub mod Set
 pub mod Family
+pub mod Held
+pub mod Promise
+pub mod Parts
