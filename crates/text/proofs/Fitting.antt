@@ -25,7 +25,7 @@ use Rattle.text.specs.Reading.{events, graphOfRules}
 use Rattle.text.specs.Output.{Pair, pairOf, upFrom, pairsOfAll, pairs, PairLine, Lines, PairsVerdict, Output, table, refused, outputPlaces}
 use Rattle.text.specs.Output as output
 use Rattle.text.proofs.Texts.{text-unique}
-use Rattle.text.proofs.Decimal.{natural-places, integer-places}
+use Rattle.numerals.proofs.Decimal.{natural-places, integer-places}
 use Rattle.text.proofs.Handed.{text-passed, counts-small}
 use Rattle.text.proofs.Places.{pairs-small}
 

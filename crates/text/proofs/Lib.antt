@@ -1,7 +1,4 @@
 -- The laws of the text form.
-pub mod Cutting
-pub mod Taking
-pub mod FieldLaws
 pub mod PartLaws
 pub mod RowLaws
 pub mod WholeRow
@@ -11,8 +8,6 @@ pub mod Beginnings
 pub mod Progress
 pub mod Writing
 pub mod Verdicts
-pub mod Appends
-pub mod Decimal
 pub mod WrittenNumbers
 pub mod WrittenLines
 pub mod PairOrder

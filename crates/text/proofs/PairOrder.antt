@@ -13,12 +13,12 @@ use Rattle.graphs.specs.Limits.{EventGraph}
 use Rattle.executions.specs.Separation.{Separation}
 use Rattle.executions.proofs.Unique.{separation-unique, least-unique, least-is-exchanged}
 use Rattle.executions.proofs.Sizes.{exact-size}
-use Rattle.text.specs.Numbers.{Integer}
+use Rattle.numerals.specs.Numbers.{Integer}
 use Rattle.text.specs.Output.{Pair, PairLine, Lines, none, more, RefusedLine}
 use Rattle.table.specs.Table.{entry, RowsFilled}
 use Rattle.text.specs.TableLines as inner
 use Rattle.text.specs.TableLines.{TableLine, TableLines, SmallEntries}
-use Rattle.text.proofs.Decimal.{natural-unique, integer-unique}
+use Rattle.numerals.proofs.Decimal.{natural-unique, integer-unique}
 
 -- ---- from the table to the graph
 

@@ -21,7 +21,7 @@ use Rattle.graphs.proofs.Refusals.{graph-place}
 use Rattle.text.specs.declared.Reading.{Reading}
 use Rattle.text.specs.Reading.{events, graphOfRules, ShortLists, ReadOff, RulesWritten}
 use Rattle.text.specs.Output.{pairs, ending, Lines, pairHeader, RefusedLine, PairsVerdict, Output, table, refused, outputPlaces, ShortOutput, PairsWritten}
-use Rattle.text.specs.Appending.{Appended}
+use Rattle.numerals.specs.Appending.{Appended}
 use Rattle.table.specs.declared.TableAnswer.{TableAnswer}
 use Rattle.table.specs.Table.{RowsFilled, TableAnswered}
 use Rattle.table.proofs.Rows.{not-large, table-alone}

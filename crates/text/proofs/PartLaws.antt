@@ -16,14 +16,16 @@ use Prim.Native.Nat.{ℕ, _+_, _≤_, _<_}
 use native.Mathlib.Omega.{arith}
 use lib.ListN.{length, drop, drop-of-length-le}
 use lib.Seq.{drop-cons}
-use Rattle.text.specs.Numbers.{Number, Field}
-use Rattle.text.specs.Scanning.{Stops, Ends, NumberAt, FieldAt}
-use Rattle.text.specs.Parts.{ByteAt, EndAt, PartAt, Comma, Closing}
-use Rattle.text.specs.declared.fields.EventField.{EventField}
-use Rattle.text.specs.declared.fields.DelayField.{DelayField}
-use Rattle.text.proofs.RowLaws.{OneCut, comma-stops, end-stops}
-use Rattle.text.proofs.FieldLaws.{after-byte}
-use Rattle.text.proofs.Taking.{never}
+use Rattle.numerals.specs.Numbers.{Number, Field}
+use Rattle.numerals.specs.Fields.{Stops, ByteAt, NumberAt, FieldAt}
+use Rattle.text.specs.Scanning.{Ends}
+use Rattle.text.specs.Parts.{EndAt, PartAt, Comma, Closing}
+use Rattle.numerals.specs.declared.EventField.{EventField}
+use Rattle.numerals.specs.declared.DelayField.{DelayField}
+use Rattle.numerals.proofs.Cuts.{OneCut}
+use Rattle.text.proofs.RowLaws.{comma-stops, end-stops}
+use Rattle.numerals.proofs.FieldLaws.{after-byte}
+use Rattle.numerals.proofs.Taking.{never}
 
 pub record Standing {A : Type 0} (F : List ℕ → A → Type 0) (bs : List ℕ) (at : ℕ) (t : Bool) (v : A) (next : ℕ) : Type 0 where
   pub right : t ≡ true → (field : List ℕ) × F field v × (drop at bs ≡ field ++ drop next bs) × Stops (drop next bs)

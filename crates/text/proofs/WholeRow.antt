@@ -12,13 +12,14 @@ use Prim.Native.Nat.{ℕ, _≤_, _<_}
 use native.Mathlib.Omega.{arith}
 use lib.IntN.{ℤ}
 use lib.ListN.{length, drop, length-append, length-drop}
-use Rattle.text.specs.Numbers.{Number, Field}
+use Rattle.numerals.specs.Numbers.{Number, Field}
 use Rattle.text.specs.Grammar.{Rule, Row}
 use Rattle.text.specs.Scanning.{Ends, RowAt}
 use Rattle.text.specs.Parts.{PartAt, Comma, Closing}
 use Rattle.text.specs.declared.rows.RuleRow.{RuleRow}
-use Rattle.text.proofs.RowLaws.{number-cut, field-cut, number-below, row-some}
-use Rattle.text.proofs.Taking.{never}
+use Rattle.numerals.proofs.Cuts.{number-cut, field-cut, number-below}
+use Rattle.text.proofs.RowLaws.{row-some}
+use Rattle.numerals.proofs.Taking.{never}
 use Rattle.text.proofs.PartLaws.{Part, part-next, comma-mark, comma-one}
 
 abbrev pub Parts4 : List ℕ → Type 0

@@ -11,38 +11,69 @@ use native.Mathlib.Numerals.{add-one}
 use native.Mathlib.Omega.{arith}
 use lib.IntN.{ℤ, pos, negℤ, _-ℤ_}
 use lib.ListN.{length, length-append}
-use Rattle.text.specs.Appending.{Appended}
-use Rattle.text.specs.Output.{Pair, pairOf, upFrom, pairsFrom, pairsOfAll, pairs, RefusedLine, pairHeader, ending, refusedWord}
+use Rattle.integers.specs.Within.{Within}
+use Rattle.numerals.specs.Appending.{Appended, Put, NaturalPut, IntegerPut}
+use Rattle.text.specs.Output.{Pair, pairOf, upFrom, pairsFrom, pairsOfAll, pairs, RefusedLine, pairHeader, ending, refusedWord, outputPlaces}
 use Rattle.table.specs.Table.{entry}
 use Rattle.text.specs.TableLines.{LineOf, TableLine, TableLines, none, more, SmallEntries}
-use Rattle.text.proofs.Appends.{appended-none, appended-more, appended-length}
-use Rattle.text.proofs.WrittenNumbers.{NaturalPut, IntegerPut, word, word-back, minus-back}
+use Rattle.numerals.proofs.Appends.{appended-none, appended-more, appended-length, put-length}
+use Rattle.text.proofs.WrittenNumbers.{NaturalIn, IntegerIn, natural-in, integer-in, word, word-back, minus-back}
 
 module _ {o : List ℕ} where
   pub refused-put : (k p : ℕ) {m₁ m₂ m₃ m₄ m₅ : List ℕ} {a₁ a₂ a₃ a₄ a₅ : ℕ} →
-      Appended o 0 (refusedWord ++ (44 ∷ [])) m₁ a₁ →
-      NaturalPut m₁ a₁ k 1 m₂ a₂ →
-      Appended m₂ a₂ (44 ∷ []) m₃ a₃ →
-      NaturalPut m₃ a₃ p 5 m₄ a₄ →
-      Appended m₄ a₄ ending m₅ a₅ →
+      k < 10 →
+      p < 100000 →
+      outputPlaces ≤ length o →
+      Put o 0 (refusedWord ++ (44 ∷ [])) m₁ a₁ →
+      NaturalPut m₁ a₁ k m₂ a₂ →
+      Put m₂ a₂ (44 ∷ []) m₃ a₃ →
+      NaturalPut m₃ a₃ p m₄ a₄ →
+      Put m₄ a₄ ending m₅ a₅ →
       (bs : List ℕ) × RefusedLine k p bs × Appended o 0 bs m₅ a₅
-  refused-put k p word number comma place end = (
-    _,
-    record { number-field = number .0; place-field = place .0; number-written = number .1; place-written = place .1; bytes = refl },
-    appended-more word (appended-more (number .3) (appended-more comma (appended-more (place .3) end))),
-  )
+  refused-put k p small small′ room w₁ w₂ w₃ w₄ w₅ =
+      let word = w₁ .fits (omega arith) in
+      let l₁ = put-length w₁ in
+      let number = natural-in 1 (omega arith) (omega arith) (omega (arith, l₁, word .after)) w₂ in
+      let l₂ = put-length (w₂ .put) ∙ l₁ in
+      let comma = w₃ .fits (omega (arith, l₂, word .after, number .2, number .3 .after)) in
+      let l₃ = put-length w₃ ∙ l₂ in
+      let place = natural-in 5 (omega arith) (omega arith) (omega (arith, l₃, word .after, number .2, number .3 .after, comma .after)) w₄ in
+      let l₄ = put-length (w₄ .put) ∙ l₃ in
+      let end = w₅ .fits (omega (arith, l₄, word .after, number .2, number .3 .after, comma .after, place .2, place .3 .after)) in (
+        _,
+        record { number-field = number .0; place-field = place .0; number-written = number .1; place-written = place .1; bytes = refl },
+        appended-more word (appended-more (number .3) (appended-more comma (appended-more (place .3) end))),
+      )
 
-  pub line-put : (at s t : ℕ) (least most : ℤ) {m₁ m₂ m₃ m₄ m₅ m₆ m₇ m₈ : List ℕ} {a₁ a₂ a₃ a₄ a₅ a₆ a₇ a₈ : ℕ} →
-      NaturalPut o at s 2 m₁ a₁ →
+-- ---- the line of a pair
+
+-- a mark put after a field that took at most k places
+record Marked (o : List ℕ) (at places : ℕ) (m : List ℕ) (a : ℕ) (cs p : List ℕ) (b : ℕ) : Type 0 where
+  mark : Appended m a cs p b
+  reached : b ≤ at + places
+  same : length p ≡ length o
+
+mark-put : (k : ℕ) (cs : List ℕ) {o : List ℕ} {at : ℕ} {bs m : List ℕ} {a : ℕ} {p : List ℕ} {b : ℕ} →
+    length bs ≤ k → Appended o at bs m a → Put m a cs p b → at + (k + length cs) ≤ length o → Marked o at (k + length cs) m a cs p b
+mark-put k cs {m = m} {a} few v w room =
+    let fits : a + length cs ≤ length m = omega (arith, v .after, appended-length v) in
+    record { mark = w .fits fits; reached = omega (arith, w .fits fits .after, v .after); same = put-length w ∙ appended-length v }
+
+abbrev LinePut : List ℕ → ℕ → ℕ → ℕ → ℤ → ℤ → List ℕ → ℕ → Type 0
+LinePut o at s t least most m next = (bs : List ℕ) × LineOf s t least most bs × (length bs ≤ 31) × Appended o at bs m next
+
+module _ {o : List ℕ} (at s t : ℕ) (least most : ℤ) {m₁ m₂ m₃ m₄ m₅ m₆ m₇ m₈ : List ℕ} {a₁ a₂ a₃ a₄ a₅ a₆ a₇ a₈ : ℕ} where
+  joined :
+      NaturalIn 2 o at s m₁ a₁ →
       Appended m₁ a₁ (44 ∷ []) m₂ a₂ →
-      NaturalPut m₂ a₂ t 2 m₃ a₃ →
+      NaturalIn 2 m₂ a₂ t m₃ a₃ →
       Appended m₃ a₃ (44 ∷ []) m₄ a₄ →
-      IntegerPut m₄ a₄ least 11 m₅ a₅ →
+      IntegerIn 11 m₄ a₄ least m₅ a₅ →
       Appended m₅ a₅ (44 ∷ []) m₆ a₆ →
-      IntegerPut m₆ a₆ most 11 m₇ a₇ →
+      IntegerIn 11 m₆ a₆ most m₇ a₇ →
       Appended m₇ a₇ ending m₈ a₈ →
-      (bs : List ℕ) × LineOf s t least most bs × (length bs ≤ 31) × Appended o at bs m₈ a₈
-  line-put at s t least most f c₁ e c₂ d c₃ h end = (
+      LinePut o at s t least most m₈ a₈
+  joined f c₁ e c₂ d c₃ h end = (
     _,
     record {
       from-field = f .0;
@@ -59,21 +90,46 @@ module _ {o : List ℕ} where
     appended-more (f .3) (appended-more c₁ (appended-more (e .3) (appended-more c₂ (appended-more (d .3) (appended-more c₃ (appended-more (h .3) end)))))),
   )
 
-  -- after the third comma there is room for a number and the ending
-  pub line-room : (at s t : ℕ) (least : ℤ) {m₁ m₂ m₃ m₄ m₅ m₆ : List ℕ} {a₁ a₂ a₃ a₄ a₅ a₆ : ℕ} →
-      NaturalPut o at s 2 m₁ a₁ →
-      Appended m₁ a₁ (44 ∷ []) m₂ a₂ →
-      NaturalPut m₂ a₂ t 2 m₃ a₃ →
-      Appended m₃ a₃ (44 ∷ []) m₄ a₄ →
-      IntegerPut m₄ a₄ least 11 m₅ a₅ →
-      Appended m₅ a₅ (44 ∷ []) m₆ a₆ →
-      at + 31 ≤ length o →
-      a₆ + 13 ≤ length m₆
-  line-room at s t least f c₁ e c₂ d c₃ room =
-      let l₂ = appended-length c₁ ∙ appended-length (f .3) in
-      let l₄ = appended-length c₂ ∙ appended-length (e .3) ∙ l₂ in
-      let l₆ = appended-length c₃ ∙ appended-length (d .3) ∙ l₄ in
-      omega (arith, f .2, f .3 .after, c₁ .after, e .2, e .3 .after, c₂ .after, d .2, d .3 .after, c₃ .after, l₆)
+  -- each field takes at most its places, so there is room for the next
+  pub line-put :
+      (s < 100) × (t < 100) × Within 2046000000 least × Within 2046000000 most × (at + 31 ≤ length o) →
+      NaturalPut o at s m₁ a₁ →
+      Put m₁ a₁ (44 ∷ []) m₂ a₂ →
+      NaturalPut m₂ a₂ t m₃ a₃ →
+      Put m₃ a₃ (44 ∷ []) m₄ a₄ →
+      IntegerPut m₄ a₄ (word least) m₅ a₅ →
+      Put m₅ a₅ (44 ∷ []) m₆ a₆ →
+      IntegerPut m₆ a₆ (word most) m₇ a₇ →
+      Put m₇ a₇ ending m₈ a₈ →
+      LinePut o at s t least most m₈ a₈
+  line-put (s-small, t-small, least-small, most-small, room) w₁ w₂ w₃ w₄ w₅ w₆ w₇ w₈ = from-on (natural-in 2 (omega arith) (omega arith) (omega arith) w₁)
+    where
+      most-on : NaturalIn 2 o at s m₁ a₁ → Marked o at 3 m₁ a₁ (44 ∷ []) m₂ a₂ → NaturalIn 2 m₂ a₂ t m₃ a₃ → Marked m₂ a₂ 3 m₃ a₃ (44 ∷ []) m₄ a₄ →
+          IntegerIn 11 m₄ a₄ least m₅ a₅ → Marked m₄ a₄ 12 m₅ a₅ (44 ∷ []) m₆ a₆ → IntegerIn 11 m₆ a₆ most m₇ a₇ → LinePut o at s t least most m₈ a₈
+      most-on f c₁ e c₂ d c₃ h =
+          joined f (c₁ .mark) e (c₂ .mark) d (c₃ .mark) h
+          (mark-put 11 ending (h .2) (h .3) w₈ (omega (arith, c₁ .reached, c₁ .same, c₂ .reached, c₂ .same, c₃ .reached, c₃ .same)) .mark)
+
+      third-on : NaturalIn 2 o at s m₁ a₁ → Marked o at 3 m₁ a₁ (44 ∷ []) m₂ a₂ → NaturalIn 2 m₂ a₂ t m₃ a₃ → Marked m₂ a₂ 3 m₃ a₃ (44 ∷ []) m₄ a₄ →
+          IntegerIn 11 m₄ a₄ least m₅ a₅ → Marked m₄ a₄ 12 m₅ a₅ (44 ∷ []) m₆ a₆ → LinePut o at s t least most m₈ a₈
+      third-on f c₁ e c₂ d c₃ =
+          most-on f c₁ e c₂ d c₃ (integer-in most most-small (omega (arith, c₁ .reached, c₁ .same, c₂ .reached, c₂ .same, c₃ .reached, c₃ .same)) w₇)
+
+      least-on : NaturalIn 2 o at s m₁ a₁ → Marked o at 3 m₁ a₁ (44 ∷ []) m₂ a₂ → NaturalIn 2 m₂ a₂ t m₃ a₃ → Marked m₂ a₂ 3 m₃ a₃ (44 ∷ []) m₄ a₄ →
+          IntegerIn 11 m₄ a₄ least m₅ a₅ → LinePut o at s t least most m₈ a₈
+      least-on f c₁ e c₂ d = third-on f c₁ e c₂ d (mark-put 11 (44 ∷ []) (d .2) (d .3) w₆ (omega (arith, c₁ .reached, c₁ .same, c₂ .reached, c₂ .same)))
+
+      second-on : NaturalIn 2 o at s m₁ a₁ → Marked o at 3 m₁ a₁ (44 ∷ []) m₂ a₂ → NaturalIn 2 m₂ a₂ t m₃ a₃ → Marked m₂ a₂ 3 m₃ a₃ (44 ∷ []) m₄ a₄ → LinePut o at s t least most m₈ a₈
+      second-on f c₁ e c₂ = least-on f c₁ e c₂ (integer-in least least-small (omega (arith, c₁ .reached, c₁ .same, c₂ .reached, c₂ .same)) w₅)
+
+      to-on : NaturalIn 2 o at s m₁ a₁ → Marked o at 3 m₁ a₁ (44 ∷ []) m₂ a₂ → NaturalIn 2 m₂ a₂ t m₃ a₃ → LinePut o at s t least most m₈ a₈
+      to-on f c₁ e = second-on f c₁ e (mark-put 2 (44 ∷ []) (e .2) (e .3) w₄ (omega (arith, c₁ .reached, c₁ .same)))
+
+      first-on : NaturalIn 2 o at s m₁ a₁ → Marked o at 3 m₁ a₁ (44 ∷ []) m₂ a₂ → LinePut o at s t least most m₈ a₈
+      first-on f c₁ = to-on f c₁ (natural-in 2 (omega arith) (omega arith) (omega (arith, c₁ .reached, c₁ .same)) w₃)
+
+      from-on : NaturalIn 2 o at s m₁ a₁ → LinePut o at s t least most m₈ a₈
+      from-on f = first-on f (mark-put 2 (44 ∷ []) (f .2) (f .3) w₂ (omega arith))
 
 -- ---- lists of pairs grow at the end
 

@@ -14,7 +14,7 @@ use mathlib.Core.Path.{_≡_}
 use mathlib.Core.List.{List, [], _∷_, _++_}
 use Prim.Native.Nat.{ℕ, zero, suc, _≤_}
 use lib.IntN.{ℤ}
-use Rattle.text.specs.Numbers.{Number, Field}
+use Rattle.numerals.specs.Numbers.{Number, Field}
 
 pub record Rule : Type 0 where
   pub source : ℕ

@@ -1,6 +1,5 @@
--- The text form: its grammar, what a reading of it is, what is asked of it, and what the pair program writes. The first five are what a reader of the
+-- The text form: its grammar, what a reading of it is, what is asked of it, and what the pair program writes. The first four are what a reader of the
 -- promises needs; the others are for the parts within.
-pub mod Numbers
 pub mod Grammar
 pub mod Reading
 pub mod Answers
@@ -8,5 +7,4 @@ pub mod Output
 pub mod Scanning
 pub mod Parts
 pub mod Scans
-pub mod Appending
 pub mod TableLines

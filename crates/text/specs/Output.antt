@@ -20,7 +20,7 @@ use Rattle.graphs.specs.Graph.{Graph}
 use Rattle.verdicts.specs.Verdict.{check, FirstOf, AtZero}
 use Rattle.graphs.specs.Refusal.{GraphVerdict}
 use Rattle.executions.specs.Separation.{Separation, LeastSeparation}
-use Rattle.text.specs.Numbers.{Natural, Integer}
+use Rattle.numerals.specs.Numbers.{Natural, Integer}
 use Rattle.text.specs.Grammar.{Rule, Text}
 use Rattle.text.specs.Reading.{TextVerdict, events, graphOfRules}
 use Rattle.text.specs.Answers.{NoLists}

@@ -1,25 +1,14 @@
 -- What the small parts of the reader find at one place of the text.
---     DigitAt bs at t       == t says whether a digit stands at that place
---     ByteAt bs at b t      == t says whether byte b stands there
---     EndAt bs at t         == t says whether the text ends there, or CR LF stands there
+--     EndAt bs at t         == t says whether the text ends at that place, or CR LF stands there
 --     Comma, Closing        == what may follow a field: a comma, and then the rest; or the end of a row, which is left for others to read
 --     PartAt F Mark bs at t v next == t says whether a field of kind F, followed by Mark, stands at that place; v is what it says, and the rest starts at next
 -- Assumes nothing.
 use mathlib.Core.Path.{_≡_}
 use mathlib.Core.Bool.{Bool, true, false}
 use mathlib.Core.List.{List, _∷_, _++_}
-use Prim.Native.Nat.{ℕ, suc, _<_, _≤_}
-use lib.ListN.{length, getD, drop}
-use Rattle.text.specs.Numbers.{IsDigit}
-use Rattle.text.specs.Scanning.{Stops, Ends}
-
-pub record DigitAt (bs : List ℕ) (at : ℕ) (t : Bool) : Type 0 where
-  pub right : t ≡ true → (at < length bs) × IsDigit (getD bs at 0)
-  pub wrong : t ≡ false → Stops (drop at bs)
-
-pub record ByteAt (bs : List ℕ) (at b : ℕ) (t : Bool) : Type 0 where
-  pub right : t ≡ true → (at < length bs) × (drop at bs ≡ b ∷ drop (suc at) bs)
-  pub wrong : t ≡ false → (after : List ℕ) → drop at bs ≡ b ∷ after → ⊥
+use Prim.Native.Nat.{ℕ, _≤_}
+use lib.ListN.{length, drop}
+use Rattle.text.specs.Scanning.{Ends}
 
 pub record EndAt (bs : List ℕ) (at : ℕ) (t : Bool) : Type 0 where
   pub right : t ≡ true → Ends (drop at bs)

@@ -1,8 +1,5 @@
 -- What the parts of the reader find at one place of the text. The bytes from a place on are `drop at bs`.
---     Stops rest          == rest begins with no digit
 --     Ends rest           == rest is nothing, or begins with CR LF
---     NumberAt bs at a    == a says whether an event number stands at that place, which, and where it stops
---     FieldAt bs at a     == the same of a delay
 --     RowAt bs at a       == a says whether a row of a rule stands there, with its ending or the end after it; which rule, and where it stops
 --     Scanned bs a        == a says whether bs is a text, of how many rules and events; or which row is broken
 -- Assumes nothing.
@@ -11,31 +8,14 @@ use mathlib.Core.Logic.{_⊎_}
 use mathlib.Core.Bool.{true, false}
 use mathlib.Core.List.{List, [], _∷_, _++_}
 use Prim.Native.Nat.{ℕ, _<_, _≤_}
-use lib.IntN.{ℤ}
 use lib.ListN.{length, drop}
-use Rattle.text.specs.Numbers.{IsDigit, Number, Field}
 use Rattle.text.specs.Grammar.{Rule, Row, Text, Broken}
 use Rattle.text.specs.Reading.{events}
-use Rattle.text.specs.declared.fields.EventField.{EventField}
-use Rattle.text.specs.declared.fields.DelayField.{DelayField}
 use Rattle.text.specs.declared.rows.RuleRow.{RuleRow}
 use Rattle.text.specs.declared.Reading.{Reading}
 
-abbrev pub Stops : List ℕ → Type 0
-Stops rest = (b : ℕ) (after : List ℕ) → rest ≡ b ∷ after → IsDigit b → ⊥
-
 abbrev pub Ends : List ℕ → Type 0
 Ends rest = (rest ≡ []) ⊎ ((after : List ℕ) × (rest ≡ 13 ∷ (10 ∷ after)))
-
-pub record NumberAt (bs : List ℕ) (at : ℕ) (a : EventField) : Type 0 where
-  pub within : a .next ≤ length bs
-  pub right : a .right ≡ true → (field : List ℕ) × Number field (a .value) × (drop at bs ≡ field ++ drop (a .next) bs) × Stops (drop (a .next) bs)
-  pub wrong : a .right ≡ false → (field rest : List ℕ) (x : ℕ) → drop at bs ≡ field ++ rest → Stops rest → Number field x → ⊥
-
-pub record FieldAt (bs : List ℕ) (at : ℕ) (a : DelayField) : Type 0 where
-  pub within : a .next ≤ length bs
-  pub right : a .right ≡ true → (field : List ℕ) × Field field (a .value) × (drop at bs ≡ field ++ drop (a .next) bs) × Stops (drop (a .next) bs)
-  pub wrong : a .right ≡ false → (field rest : List ℕ) (z : ℤ) → drop at bs ≡ field ++ rest → Stops rest → Field field z → ⊥
 
 abbrev pub ruleOf : RuleRow → Rule
 ruleOf a = record { source = a .source; target = a .target; least = a .least; most = a .most }

@@ -9,7 +9,7 @@ use mathlib.Core.List.{List, [], _∷_, _++_}
 use Prim.Native.Nat.{ℕ, _<_}
 use lib.IntN.{ℤ, negℤ}
 use Rattle.integers.specs.Within.{Within}
-use Rattle.text.specs.Numbers.{Natural, Integer}
+use Rattle.numerals.specs.Numbers.{Natural, Integer}
 use Rattle.text.specs.Output.{Pair, ending}
 use Rattle.table.specs.Table.{entry}
 

@@ -12,11 +12,9 @@ ghost use Rattle.separation.specs.Promise.{Nothing};
 ghost use Rattle.text.specs.Reading.{ReadOff, RulesWritten, ShortLists};
 ghost use Rattle.text.specs.Answers.{TextAnswered};
 ghost use Rattle.text.specs.Output.{Output, outputPlaces, PairsWritten};
-ghost use Rattle.text.specs.Appending.{Appended};
+ghost use Rattle.numerals.specs.Appending.{Appended};
 
-mod fields;
 mod lines;
-mod numerals;
 mod rows;
 mod rules;
 mod scan;

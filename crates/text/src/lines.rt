@@ -6,14 +6,14 @@ ghost use lib.ListN.{length};
 ghost use Rattle.integers.specs.Within.{Within};
 ghost use Rattle.graphs.specs.Graph.{Graph};
 ghost use Rattle.graphs.specs.Limits.{EventGraph};
-ghost use Rattle.text.specs.Appending.{Appended};
+ghost use Rattle.numerals.specs.Appending.{Appended};
 ghost use Rattle.text.specs.Output.{RefusedLine, Lines, pairs, pairsFrom, pairHeader, ending, outputPlaces};
 ghost use Rattle.table.specs.Table.{RowsFilled};
 ghost use Rattle.text.specs.TableLines.{LineOf, TableLines, SmallEntries};
-use crate::numerals::put_byte;
-use crate::numerals::put_bytes;
-use crate::numerals::put_integer;
-use crate::numerals::put_natural;
+use numerals::put_byte;
+use numerals::put_bytes;
+use numerals::put_integer;
+use numerals::put_natural;
 
 // The comma.
 const COMMA: u8 = 44;
@@ -27,9 +27,9 @@ pub(crate) fn put_refusal(out: &mut [u8], refusal: usize, place: usize) -> usize
     ensures { λ r. ⌜ ((bs : List ℕ) × RefusedLine refusal place bs × Appended (now (out .entry)) 0 bs (now (out .exit)) r) ⌝ }
 {
     let word = put_bytes(out, 0, b"refused,");
-    let number = put_natural(out, word, refusal, 1);
+    let number = put_natural(out, word, refusal);
     let comma = put_byte(out, number, COMMA);
-    let last = put_natural(out, comma, place, 5);
+    let last = put_natural(out, comma, place);
     put_bytes(out, last, b"\r\n")
 }
 
@@ -38,9 +38,9 @@ fn put_pair(out: &mut [u8], at: usize, from: usize, to: usize, least: i64, most:
     requires { ⌜ (from < 100) × (to < 100) × Within 2046000000 least × Within 2046000000 most × (at + 31 ≤ length (now out)) ⌝ }
     ensures { λ r. ⌜ ((bs : List ℕ) × LineOf from to least most bs × (length bs ≤ 31) × Appended (now (out .entry)) at bs (now (out .exit)) r) ⌝ }
 {
-    let first = put_natural(out, at, from, 2);
+    let first = put_natural(out, at, from);
     let comma = put_byte(out, first, COMMA);
-    let second = put_natural(out, comma, to, 2);
+    let second = put_natural(out, comma, to);
     let comma = put_byte(out, second, COMMA);
     let third = put_integer(out, comma, least);
     let comma = put_byte(out, third, COMMA);

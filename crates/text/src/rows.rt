@@ -3,14 +3,14 @@ ghost use mathlib.Core.Path.{_≡_};
 ghost use mathlib.Core.Bool.{false};
 ghost use Prim.Native.Nat.{_≤_};
 ghost use lib.ListN.{length};
-ghost use Rattle.text.specs.Numbers.{Number, Field};
+ghost use Rattle.numerals.specs.Numbers.{Number, Field};
 ghost use Rattle.text.specs.Scanning.{RowAt};
 ghost use Rattle.text.specs.Parts.{EndAt, PartAt, Comma, Closing};
-use crate::fields::DelayField;
-use crate::fields::EventField;
-use crate::fields::byte_at;
-use crate::fields::delay_field;
-use crate::fields::event_field;
+use numerals::DelayField;
+use numerals::EventField;
+use numerals::byte_at;
+use numerals::delay_field;
+use numerals::event_field;
 
 // Whether a row of a rule stands at a place, which rule, and where it stops.
 pub(crate) struct RuleRow {

@@ -35,7 +35,7 @@ returns-2 : tie.Need-returns-2 Inv-loop μ-loop
 returns-2 c = table-refused (c .before .before .before .before .before .before .before .before .too-large .ensures .1 (c .before .before .before .before .before .before .before .if1 .left)) (c .before .before .before .before .before .before .loop .inv .1) (c .before .before .before .fill-row .ensures) (c .if2 .taken)
 
 add-from : tie.Need-add-from Inv-loop μ-loop
-add-from c = record { fits = omega arith }
+add-from c = record { fits = omega (arith, c .before .before .before .before .before .loop-test .taken, c .before .before .before .before .before .before .before .before .too-large .ensures .1 (c .before .before .before .before .before .before .before .if1 .left) .1) }
 
 loop-less : tie.Need-loop-less Inv-loop μ-loop
 loop-less c = omega arith

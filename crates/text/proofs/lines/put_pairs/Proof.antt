@@ -3,7 +3,7 @@ use mathlib.Core.Path.{_∙_}
 use Prim.Native.Nat.{_-_}
 use native.Mathlib.Omega.{arith}
 use borrow.Author.Needs.{needs}
-use Rattle.text.proofs.Appends.{appended-length}
+use Rattle.numerals.proofs.Appends.{appended-length, put-length}
 use Rattle.text.proofs.WrittenLines.{TableGoing, table-start, table-room, table-next, table-done}
 use Rattle.text.proofs.PairOrder.{small-entries, lines-of-table}
 use Rattle.text.proofs.lines.put_pairs.Statement.{statement}
@@ -19,18 +19,18 @@ slice-aggregate-put-bytes : tie.Need-slice-aggregate-put-bytes Inv-loop μ-loop
 slice-aggregate-put-bytes c = search needs
 
 put-bytes-requires : tie.Need-put-bytes-requires Inv-loop μ-loop
-put-bytes-requires c κs = omega arith
+put-bytes-requires c κs = tt
 
 loop-holds : tie.Need-loop-holds Inv-loop μ-loop
 loop-holds c =
-    let h = c .before .before .put-bytes .ensures in
+    let h = c .before .before .put-bytes .ensures .fits (omega (arith, c .before .before .before .before .before .before .pre .0 .0)) in
     table-start (omega (arith, h .inside, appended-length h))
 
 put-pairs-from-requires : tie.Need-put-pairs-from-requires Inv-loop μ-loop
 put-pairs-from-requires c κs =
     let b = c .before in
     let pre = b .before .before .before .before .before .before .before .before .pre in
-    let h = b .before .before .before .before .put-bytes .ensures in
+    let h = b .before .before .before .before .put-bytes .ensures .fits (omega (arith, pre .0 .0)) in
     let graph = pre .1 in
     (pre .0 .1, b .loop-test .taken, pre .0 .2, table-room (b .before .loop .inv) (b .loop-test .taken) (pre .0 .1) (omega (arith, pre .0 .0, h .after, appended-length h)), small-entries (graph .1) (graph .3) (graph .2))
 
@@ -46,11 +46,11 @@ loop-again c =
     table-next (b .before .loop .inv) (b .loop-test .taken) (c .before .before .put-pairs-from .ensures)
 
 same-length : tie.Need-same-length Inv-loop μ-loop
-same-length c = appended-length (c .before .loop .inv .appended) ∙ appended-length (c .before .before .before .before .put-bytes .ensures)
+same-length c = appended-length (c .before .loop .inv .appended) ∙ put-length (c .before .before .before .before .put-bytes .ensures)
 
 returns : tie.Need-returns Inv-loop μ-loop
 returns c g same eg filled =
-    let w = table-done (c .before .loop .inv) (c .loop-test .left) (c .before .before .before .before .put-bytes .ensures) in
+    let w = table-done (c .before .loop .inv) (c .loop-test .left) (c .before .before .before .before .put-bytes .ensures .fits (omega (arith, c .before .before .before .before .before .before .before .before .pre .0 .0))) in
     (w .0, lines-of-table same filled (w .1), w .2)
 
 pub put-pairs-spec : {M : Type 1} → statement M

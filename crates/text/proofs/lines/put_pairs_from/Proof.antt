@@ -1,5 +1,5 @@
 -- `put_pairs_from` meets its contract: a loop that writes one line a turn. Assumes nothing.
-use Rattle.text.proofs.Appends.{appended-length}
+use Rattle.numerals.proofs.Appends.{appended-length}
 use Rattle.text.proofs.WrittenNumbers.{minus-fits, minus-within, word-within}
 use Prim.Native.Nat.{_-_}
 use native.Mathlib.Omega.{arith}

@@ -4,14 +4,14 @@ use borrow.Author.Tests.{not-true, not-false}
 use lib.IntN.{pos}
 use mir.Syntax.{w64}
 use mir.Facts.{toZ-ofZ}
-use Rattle.text.proofs.RowLaws.{field-cut}
-use Rattle.text.proofs.FieldLaws.{after-byte}
+use Rattle.numerals.proofs.Cuts.{field-cut}
+use Rattle.numerals.proofs.FieldLaws.{after-byte}
 use Rattle.text.proofs.PartLaws.{standing-delay, comma-mark, part-none, part-some}
 use Rattle.text.proofs.rows.delay_and_comma.Statement.{statement}
 use Rattle.text.proofs.rows.delay_and_comma.Tie as tie
 
 delay-field-requires : tie.Need-delay-field-requires
-delay-field-requires c κs = c .before .pre
+delay-field-requires c κs = tt
 
 byte-at-requires : tie.Need-byte-at-requires
 byte-at-requires c κs = tt
@@ -27,7 +27,7 @@ returns c =
     (c .before .before .before .before .pre .0)
 
 add-t7 : tie.Need-add-t7
-add-t7 c = record { fits = omega (arith, c .before .before .delay-field .ensures .within) }
+add-t7 c = record { fits = omega (arith, c .before .before .delay-field .ensures .within (c .before .before .before .before .pre .0)) }
 
 returns-2 : tie.Need-returns-2
 returns-2 c =

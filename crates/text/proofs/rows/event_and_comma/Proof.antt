@@ -1,14 +1,14 @@
 -- `event_and_comma` meets its contract. Assumes nothing.
 use native.Mathlib.Omega.{arith}
 use borrow.Author.Tests.{not-true, not-false}
-use Rattle.text.proofs.RowLaws.{number-cut}
-use Rattle.text.proofs.FieldLaws.{after-byte}
+use Rattle.numerals.proofs.Cuts.{number-cut}
+use Rattle.numerals.proofs.FieldLaws.{after-byte}
 use Rattle.text.proofs.PartLaws.{standing-number, comma-mark, part-none, part-some}
 use Rattle.text.proofs.rows.event_and_comma.Statement.{statement}
 use Rattle.text.proofs.rows.event_and_comma.Tie as tie
 
 event-field-requires : tie.Need-event-field-requires
-event-field-requires c κs = c .before .pre
+event-field-requires c κs = tt
 
 byte-at-requires : tie.Need-byte-at-requires
 byte-at-requires c κs = tt
@@ -24,7 +24,7 @@ returns c =
     (c .before .before .before .before .pre .0)
 
 add-t7 : tie.Need-add-t7
-add-t7 c = record { fits = omega (arith, c .before .before .event-field .ensures .within) }
+add-t7 c = record { fits = omega (arith, c .before .before .event-field .ensures .within (c .before .before .before .before .pre .0)) }
 
 returns-2 : tie.Need-returns-2
 returns-2 c =
