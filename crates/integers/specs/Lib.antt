@@ -1,2 +1,3 @@
--- Notions of whole numbers that the statements above rest on.
+-- Notions of whole numbers, and of lists of them, that the statements above rest on.
 pub mod Within
+pub mod Filled

@@ -26,7 +26,7 @@ use Rattle.graphs.specs.Graph as event
 use Rattle.graphs.specs.Graph.{Graph, graphOf, rules}
 use Rattle.graphs.specs.Path.{Path, stay, step, steps, HasCycle}
 use Rattle.verdicts.specs.Verdict.{given, passed, accepted}
-use Rattle.faults.specs.Faults.{EndsKnown}
+use Rattle.refusals.specs.Faults.{EndsKnown}
 use Rattle.separation.specs.declared.Answer.{Answer}
 use Rattle.separation.specs.Promise as analysis
 use Rattle.separation.specs.Coarse.{StepOutside, CoarseVerdict}

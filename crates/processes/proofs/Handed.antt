@@ -27,7 +27,7 @@ use Rattle.graphs.specs.Limits.{EndsKept, DelaysKept, Sized}
 use Rattle.verdicts.specs.Verdict.{First, given, passed, accepted}
 use Rattle.verdicts.proofs.Verdicts.{none-lowest}
 use Rattle.graphs.proofs.Unique.{stable, known-ends, ends-kept, inside-delays, delays-kept, counts-not-outside}
-use Rattle.faults.specs.Faults.{InsideDelays}
+use Rattle.refusals.specs.Faults.{InsideDelays}
 use Rattle.separation.specs.Promise as analysis
 use Rattle.separation.specs.Promise.{source-missing, target-missing}
 use Rattle.processes.specs.declared.Unfolded.{Unfolded}

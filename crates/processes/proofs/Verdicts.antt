@@ -15,9 +15,9 @@ use lib.IntN.{ℤ}
 use lib.ListN.{length}
 use Rattle.verdicts.specs.Verdict.{First, given, passed, accepted, AtZero, Lowest}
 use Rattle.verdicts.specs.Verdict.{LowestOr}
-use Rattle.faults.specs.Faults.{EndsKnown, EndUnknown, InsideDelays, DelaysInside, DelaysOutside}
+use Rattle.refusals.specs.Faults.{EndsKnown, EndUnknown, InsideDelays, DelaysInside, DelaysOutside}
 use Rattle.verdicts.proofs.Searches.{lowest-bad, as-long}
-use Rattle.faults.proofs.Unique as faults
+use Rattle.refusals.proofs.Unique as refusals
 use Rattle.processes.specs.declared.Unfolded.{Unfolded}
 use Rattle.processes.specs.Process.{ProcessGraph, templates, source, target, least, most, mark}
 use Rattle.processes.specs.Unfolding.{CountsOutside, ShortLists, short-sources, short-targets, short-leasts, short-mosts, UnknownEvent, DelayOutside, MarkOutside, Verdict, Answered}
@@ -26,10 +26,10 @@ use Rattle.processes.specs.Checks.{CountsKept, MarkKept, MarkBroken, Pro
 
 module _ {g : ProcessGraph} where
   pub known-not-unknown : (j : ℕ) → EndsKnown (g .events) (g .sources) (g .targets) j → UnknownEvent g j → ⊥
-  known-not-unknown j h u = faults.known-not-unknown h (u .unknown)
+  known-not-unknown j h u = refusals.known-not-unknown h (u .unknown)
 
   pub inside-not-outside : (j : ℕ) → InsideDelays (least g j) (most g j) → DelayOutside g j → ⊥
-  inside-not-outside j h o = faults.inside-not-outside h (o .outside)
+  inside-not-outside j h o = refusals.inside-not-outside h (o .outside)
 
   pub kept-not-broken : (j : ℕ) → MarkKept (g .marks) j → MarkOutside g j → ⊥
   kept-not-broken j h o = ⊎-elim (o .not-zero) (o .not-one) h

@@ -4,14 +4,14 @@
 --     MarkKept ms j, MarkBroken ms j == the offset mark of template j is 0 or 1, or neither
 --     ProcessKept g K n           == nothing is refused: the counts, the events and the marks are kept, and n places are enough
 --     ProcessChecked g K n a      == a is the answer where the shortest lent list has n places
--- Templates with marks ms, K copies. Events and delays are checked as those of a graph, by the crate faults. Assumes nothing.
+-- Templates with marks ms, K copies. Events and delays are checked as those of a graph, by the crate refusals. Assumes nothing.
 use mathlib.Core.Path.{_≡_}
 use mathlib.Core.Bool.{Bool, true, false}
 use mathlib.Core.Logic.{_⊎_}
 use mathlib.Core.List.{List}
 use Prim.Native.Nat.{ℕ, _+_, _*_, _<_, _≤_}
 use lib.ListN.{length, getD}
-use Rattle.faults.specs.Faults.{EndsKnown}
+use Rattle.refusals.specs.Faults.{EndsKnown}
 use Rattle.processes.specs.declared.Unfolded.{Unfolded}
 use Rattle.processes.specs.Process.{ProcessGraph, templates}
 use Rattle.processes.specs.Unfolding.{CountsOutside, Answered}

@@ -7,23 +7,21 @@
 --     exact-within, least-of-exchanged, answers-near    the sizes, the least value, and demand 3's first sentence, of answers
 --     schedule-unique    all of it: two results of `schedule` are equal
 -- Assumes nothing.
-use mathlib.Core.Path.{_≡_, refl, sym, subst, _∙_}
+use mathlib.Core.Path.{_≡_, sym, subst, _∙_}
 use mathlib.Core.List.{List}
-use Prim.Native.Nat.{ℕ, _+_, _-_, _*_, _<_, _≤_}
-use native.Mathlib.Decide.{ℕ-discrete, decLt}
-use native.Mathlib.Omega.{arith}
-use lib.IntN.{ℤ, pos, negℤ}
-use lib.ListN.{length, getD, drop}
-use lib.Seq.{ext-getD, getD-drop}
+use Prim.Native.Nat.{ℕ, _+_, _*_}
+use native.Mathlib.Decide.{ℕ-discrete}
+use lib.IntN.{ℤ, negℤ}
 use Rattle.graphs.specs.Graph.{Graph, rules}
 use Rattle.graphs.proofs.Unique.{depth-unique}
 use Rattle.integers.specs.Within.{Within}
+use Rattle.integers.proofs.Filling.{same-list}
 use Rattle.executions.specs.Separation.{LeastSeparation, SameRules, Near, DelaysNear}
 use Rattle.executions.proofs.Nearness.{maxima-near}
 use Rattle.executions.proofs.Sizes.{exact-size}
 use Rattle.executions.proofs.Unique.{separation-unique, least-is-exchanged, latest-unique, greatest-delays-unique}
 use Rattle.separation.specs.declared.Answer.{Answer}
-use Rattle.separation.specs.Promise.{Verdict, Answered, Nothing, Written, at}
+use Rattle.separation.specs.Promise.{Verdict, Answered, Nothing, Written}
 use Rattle.separation.proofs.Verdicts.{verdict-unique}
 
 -- an answer is its five numbers
@@ -70,20 +68,6 @@ answer-unique pa pb =
     })
     (pa .nothing)
     (pb .nothing)
-
--- lists that agree in the places up to n and beyond
-same-list : (n : ℕ) (xs ys : List ℤ) → length xs ≡ length ys → ((i : ℕ) → i < n → at xs i ≡ at ys i) → drop n xs ≡ drop n ys → xs ≡ ys
-same-list n xs ys long up-to beyond = ext-getD (pos 0) xs ys long (λ i l. place i (decLt i n))
-  where
-    after : (i : ℕ) → n ≤ i → at xs i ≡ at ys i
-    after i l =
-        let e : n + (i - n) ≡ i = omega arith in
-        subst (λ (k : ℕ). at xs k ≡ at ys k) e
-        (sym (getD-drop n xs (i - n) (pos 0)) ∙ subst (λ (zs : List ℤ). getD zs (i - n) (pos 0) ≡ at ys (n + (i - n))) (sym beyond) (getD-drop n ys (i - n) (pos 0)))
-
-    place : (i : ℕ) → Dec (i < n) → at xs i ≡ at ys i
-    place i (yes l) = up-to i l
-    place i (no l) = after i (omega arith)
 
 module _ {g : Graph} {s t : ℕ} {Short : Type 0} {a : Answer} (p : Answered g s t Short a) {times₀ delays₀ times delays times′ delays′ : List ℤ} (w : Written g s a times₀ delays₀ times delays) (w′ : Written g s a times₀ delays₀ times′ delays′) where
   pub times-unique : times ≡ times′

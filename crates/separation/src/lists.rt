@@ -7,7 +7,8 @@ ghost use lib.IntN.{pos, _-ℤ_};
 ghost use lib.ListN.{length, getD};
 ghost use Rattle.integers.specs.Within.{Within};
 ghost use Rattle.executions.specs.Steps.{Lesser};
-ghost use Rattle.separation.specs.Lists.{Filled, TimeAt, DelayAt, RuleTimed};
+ghost use Rattle.integers.specs.Filled.{Filled};
+ghost use Rattle.separation.specs.Parts.Lists.{TimeAt, DelayAt, RuleTimed};
 
 // Whether a list of that many times, or of that many delays, is too short.
 pub(crate) fn too_short(times: usize, n: usize, delays: usize, rules: usize) -> bool

@@ -11,8 +11,8 @@ use borrow.Author.Needs.{scaled-fits}
 use Rattle.integers.specs.Within.{Within}
 use Rattle.integers.proofs.Word.{read-back}
 use Rattle.executions.specs.Steps.{Lesser}
-use Rattle.separation.specs.Lists.{DelayAt, RuleTimed}
-use Rattle.separation.proofs.Filling.{Filling, filling-none, filling-more, filling-done}
+use Rattle.separation.specs.Parts.Lists.{DelayAt, RuleTimed}
+use Rattle.integers.proofs.Filling.{Filling, filling-none, filling-more, filling-done}
 use Rattle.separation.proofs.lists.write_delays.Statement.{statement}
 use Rattle.separation.proofs.lists.write_delays.Tie as tie
 

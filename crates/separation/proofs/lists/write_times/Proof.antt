@@ -2,10 +2,10 @@
 use Prim.Native.Nat.{_-_}
 use native.Mathlib.Omega.{arith}
 use lib.Dec.{lit<}
-use Rattle.separation.specs.Lists.{TimeAt}
+use Rattle.separation.specs.Parts.Lists.{TimeAt}
 use mir.Syntax.{w64}
 use Rattle.integers.proofs.Word.{difference-fits, difference-back}
-use Rattle.separation.proofs.Filling.{Filling, filling-none, filling-more, filling-done}
+use Rattle.integers.proofs.Filling.{Filling, filling-none, filling-more, filling-done}
 use Rattle.separation.proofs.lists.write_times.Statement.{statement}
 use Rattle.separation.proofs.lists.write_times.Tie as tie
 
