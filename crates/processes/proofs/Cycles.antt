@@ -28,7 +28,7 @@ use Rattle.graphs.specs.Path.{Path, stay, step, steps, HasCycle}
 use Rattle.graphs.proofs.Refusals.{cycle-exactly}
 use Rattle.verdicts.specs.Verdict.{check}
 use Rattle.verdicts.proofs.Verdicts.{rest-of}
-use Rattle.faults.specs.Faults.{EndsKnown}
+use Rattle.refusals.specs.Faults.{EndsKnown}
 use Rattle.separation.specs.declared.Answer.{Answer}
 use Rattle.separation.specs.Promise as analysis
 use Rattle.separation.specs.Coarse.{StepOutside, CoarseVerdict}

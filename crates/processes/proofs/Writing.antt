@@ -20,7 +20,7 @@ use lib.ListN.{length, getD, take, drop, set, length-set}
 use lib.Seq.{getD-set-same, getD-set-other, drop-set-lt, getD-take, length-take-le}
 use Rattle.graphs.specs.Graph as rule
 use Rattle.graphs.specs.Graph.{Graph, graphOf}
-use Rattle.faults.specs.Faults.{EndsKnown}
+use Rattle.refusals.specs.Faults.{EndsKnown}
 use Rattle.processes.specs.declared.Unfolded.{Unfolded}
 use Rattle.processes.specs.Process.{ProcessGraph, templates, source, target, least, most, mark, occurrence, Node, root, at, Instance, together, onward, start}
 use Rattle.processes.specs.Unfolding.{RuleAt, Unfolds, UnfoldingWritten}

@@ -54,11 +54,11 @@ pub(crate) fn check_process(
     if places < rules {
         return refused(1, 0);
     }
-    let unknown = faults::unknown_event(p, sources, targets);
+    let unknown = refusals::unknown_event(p, sources, targets);
     if unknown < sources.len() {
         return refused(2, unknown);
     }
-    let outside = faults::outside_delay(leasts, mosts);
+    let outside = refusals::outside_delay(leasts, mosts);
     if outside < leasts.len() {
         return refused(3, outside);
     }

@@ -11,7 +11,7 @@ use mathlib.Core.Logic.{_⊎_}
 use mathlib.Core.List.{List}
 use Prim.Native.Nat.{ℕ, _+_, _*_, _<_, _≤_}
 use lib.ListN.{length, getD}
-use Rattle.faults.specs.Faults.{EndsKnown}
+use Rattle.refusals.specs.Faults.{EndsKnown}
 use Rattle.processes.specs.declared.Unfolded.{Unfolded}
 use Rattle.processes.specs.Process.{ProcessGraph, templates}
 use Rattle.processes.specs.Unfolding.{ProcessCountsOutside, UnfoldingAnswered}

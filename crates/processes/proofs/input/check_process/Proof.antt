@@ -7,7 +7,7 @@ use native.Mathlib.Omega.{arith}
 use denote.Ref.{now}
 use borrow.Author.Needs.{needs}
 use borrow.Author.Tests.{not-true, not-false}
-use Rattle.faults.specs.Faults.{EndsKnown, InsideDelays}
+use Rattle.refusals.specs.Faults.{EndsKnown, InsideDelays}
 use Rattle.verdicts.proofs.Searches.{all-good, as-long}
 use Rattle.processes.specs.Process.{ProcessGraph, processOf, templates, least, most}
 use Rattle.processes.specs.Inner.Checks.{ProcessCountsKept, MarkKept}
