@@ -22,8 +22,8 @@ use lib.ListN.{length, drop, length-append, length-drop}
 use lib.Seq.{drop-drop, drop-at}
 use Rattle.text.specs.Grammar.{Rule, Row, header, Rows, none, Text, Ended, start, ended, Broken}
 use Rattle.text.specs.Reading.{events}
-use Rattle.text.specs.Scanning.{Ends, ruleOf, RowAt, Scanned}
-use Rattle.text.specs.Scans.{HeaderFound}
+use Rattle.text.specs.Parts.Scanning.{Ends, ruleOf, RowAt, Scanned}
+use Rattle.text.specs.Parts.Header.{HeaderFound}
 use Rattle.text.specs.declared.Reading.{Reading}
 use Rattle.text.specs.declared.rows.RuleRow.{RuleRow}
 use Rattle.text.proofs.Texts.{no-bytes, After, nothing, rows, text-made, rows-made}

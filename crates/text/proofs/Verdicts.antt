@@ -17,7 +17,7 @@ use Rattle.verdicts.specs.Verdict.{given, passed, Accepted, accepted, AtZero}
 use Rattle.text.specs.declared.Reading.{Reading}
 use Rattle.text.specs.Grammar.{Rule, Text, Broken}
 use Rattle.text.specs.Reading.{events, ShortLists, Beyond, many-events, many-rows, short-list, CountsBeyond, TextVerdict, ReadOff, ListsHold, RulesWritten}
-use Rattle.text.specs.Scanning.{Scanned}
+use Rattle.text.specs.Parts.Scanning.{Scanned}
 use Rattle.text.proofs.Texts.{text-unique, text-not-broken}
 
 -- ---- the reading

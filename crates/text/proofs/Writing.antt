@@ -18,7 +18,7 @@ use lib.ListN.{length, drop, set, getD, length-append, length-drop, length-map}
 use lib.Seq.{drop-cons, set-at, drop-at, append-snoc}
 use Rattle.text.specs.Grammar.{Rule, header, Text}
 use Rattle.text.specs.Reading.{ListsHold}
-use Rattle.text.specs.Scanning.{ruleOf, RowAt}
+use Rattle.text.specs.Parts.Scanning.{ruleOf, RowAt}
 use Rattle.text.specs.declared.rows.RuleRow.{RuleRow}
 use Rattle.text.proofs.Texts.{After, FirstRow, after-ends, after-rows, text-cut, rows-first, text-unique, text-not-broken}
 use Rattle.text.proofs.Progress.{one-more, Progress, header-room, progress-none, ending, progress-more, progress-done, progress-broken}
