@@ -23,7 +23,7 @@ use Rattle.refusals.proofs.Unique.{known-not-unknown, inside-not-outside}
 use Rattle.processes.specs.declared.Unfolded.{Unfolded}
 use Rattle.processes.specs.Process.{ProcessGraph, templates, least, most}
 use Rattle.processes.specs.Unfolding.{ProcessCountsOutside, ShortRuleLists, short-sources, short-targets, short-leasts, short-mosts, UnknownTemplateEvent, TemplateDelayOutside, MarkOutside, processChecks, UnfoldingVerdict, UnfoldingAnswered}
-use Rattle.processes.specs.Inner.Checks.{ProcessCountsKept, MarkKept, MarkBroken, ProcessKept, ProcessChecked}
+use Rattle.processes.specs.Parts.Checks.{ProcessCountsKept, MarkKept, MarkBroken, ProcessKept, ProcessChecked}
 use Rattle.processes.proofs.Refusals.{plain, counts-miss, ends-miss, delays-miss, process-none, short-alike}
 
 module _ (g : ProcessGraph) where

@@ -3,7 +3,7 @@ ghost use mathlib.Core.Path.{_≡_};
 ghost use mathlib.Core.Logic.{_⊎_};
 ghost use Prim.Native.Nat.{ℕ, _<_, _≤_};
 ghost use Rattle.processes.specs.Process.{processOf};
-ghost use Rattle.processes.specs.Inner.Checks.{ProcessChecked};
+ghost use Rattle.processes.specs.Parts.Checks.{ProcessChecked};
 use crate::Unfolded;
 use crate::checks::broken_mark;
 use crate::checks::counts_kept;

@@ -7,7 +7,7 @@ use mathlib.Core.List.{List, _++_}
 use Prim.Native.Nat.{ℕ, _≤_}
 use lib.ListN.{length, drop}
 use Rattle.text.specs.Grammar.{header}
-use Rattle.text.specs.Scanning.{Ends}
+use Rattle.text.specs.Parts.Scanning.{Ends}
 
 pub record HeaderFound (bs : List ℕ) (found : Bool) : Type 0 where
   pub room : found ≡ true → 24 ≤ length bs
