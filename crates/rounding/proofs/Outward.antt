@@ -19,7 +19,7 @@ use Rattle.integers.specs.Within.{Within}
 use Rattle.integers.proofs.Integer.{linear, negation}
 use Rattle.integers.proofs.Word.{within-fits, read-back, within-wider, within-sum, within-difference}
 use Rattle.rounding.specs.Rounding.{Down, Up}
-use Rattle.rounding.specs.Beside.{Beside}
+use Rattle.rounding.specs.Parts.Beside.{Beside}
 use Rattle.rounding.proofs.Multiples.{beside-within, beside-down, beside-up, step-down, step-up, down-within, up-within}
 
 pub step-held : {step : ℕ} → step ≤ 1000 → toZ w64 step ≡ pos step

@@ -13,7 +13,7 @@ ghost use Rattle.integers.specs.Within.{Within};
 ghost use Rattle.sequences.specs.Filled.{Filled};
 ghost use Rattle.rounding.specs.Rounding.{Down, Up};
 ghost use Rattle.rounding.specs.Promise.{StepOutside, Roundable, WentDown, WentUp, ListsOutside, DelaysRounded};
-ghost use Rattle.rounding.specs.Beside.{Beside};
+ghost use Rattle.rounding.specs.Parts.Beside.{Beside};
 use refusals::Refusal;
 
 const MAX_STEP: usize = 1000;

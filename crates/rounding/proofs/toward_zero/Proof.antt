@@ -11,7 +11,7 @@ use borrow.Author.Needs.{needs}
 use Rattle.integers.specs.Within.{Within}
 use Rattle.integers.proofs.Word.{within-fits, read-back, within-wider}
 use Rattle.integers.proofs.Division.{quotient-within}
-use Rattle.rounding.specs.Beside.{Beside}
+use Rattle.rounding.specs.Parts.Beside.{Beside}
 use Rattle.rounding.proofs.Multiples.{quotient-beside, beside-within}
 use Rattle.rounding.proofs.Outward.{step-held}
 use Rattle.rounding.proofs.toward_zero.Statement.{statement}

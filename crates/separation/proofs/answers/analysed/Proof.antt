@@ -12,11 +12,12 @@ use Rattle.separation.proofs.Analyses.{answer-refused, answer-found}
 use Rattle.separation.proofs.answers.analysed.Statement.{statement}
 use Rattle.separation.proofs.answers.analysed.Tie as tie
 
--- U(t) stands within the list
-t-below : (c : tie.Else1) → c .before .before .before .before .before .before .before .args .t < 1024
-t-below c =
+-- both events stand within the list
+ends-below : (c : tie.Else1) → (c .before .before .before .before .before .before .before .args .t < 1024) × (c .before .before .before .before .before .before .before .args .s < 1024)
+ends-below c =
     let found = c .before .before .before .analyse .ensures .found (c .if1 .left) in
-    omega (arith, found .target-known, found .graph .sized .counts .few-events)
+    let few = found .graph .sized .counts .few-events in
+    (omega (arith, found .target-known, few), omega (arith, found .source-known, few))
 
 analyse-requires : tie.Need-analyse-requires
 analyse-requires c κs = search needs
@@ -31,10 +32,10 @@ returns : tie.Need-returns
 returns c = answer-refused (c .before .before .before .before .before .before .before .before .pre) (c .before .before .before .before .analyse .ensures) (c .before .if1 .taken) (c .refused .ensures)
 
 mul-t14 : tie.Need-mul-t14
-mul-t14 c = record { fits = omega (arith, t-below c) }
+mul-t14 c = record { fits = omega (arith, ends-below c) }
 
 slice-copy-out-t16 : tie.Need-slice-copy-out-t16
-slice-copy-out-t16 c = omega (arith, t-below c, c .before .before .before .analyse .kept .1 .1 .1 .1 .1 .1 .1 .1 .0, c .before .before .before .before .before .before .before .pre)
+slice-copy-out-t16 c = omega (arith, ends-below c, c .before .before .before .analyse .kept .1 .1 .1 .1 .1 .1 .1 .1 .0, c .before .before .before .before .before .before .before .pre)
 
 same-length-2 : tie.Need-same-length-2
 same-length-2 c = search needs
