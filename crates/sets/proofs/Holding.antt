@@ -49,8 +49,8 @@ pair-back p = pair-same (limit-back (p .l)) (limit-back (p .w))
 
 pub held-pair :
     (a b x y : ℤ) (f g : Bool) → x ≡ numeral (limit a f) → y ≡ numeral (limit b g)
-    → _≡_ {A = HeldPair} (record { l = x; «l_unlimited» = f; w = y; «w_unlimited» = g }) (heldPair (pair (limit a f) (limit b g)))
-held-pair a b x y f g e h = λ i. record { l = e i; «l_unlimited» = sym (flag-back a f) i; w = h i; «w_unlimited» = sym (flag-back b g) i }
+    → _≡_ {A = HeldPair} (record { l = x; w = y; «l_unlimited» = f; «w_unlimited» = g }) (heldPair (pair (limit a f) (limit b g)))
+held-pair a b x y f g e h = λ i. record { l = e i; w = h i; «l_unlimited» = sym (flag-back a f) i; «w_unlimited» = sym (flag-back b g) i }
 
 map-back : (T : List Pair) → map pairOf (map heldPair T) ≡ T
 map-back [] = refl

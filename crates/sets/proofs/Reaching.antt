@@ -56,10 +56,10 @@ module _ (x l : ℤ) (x-fits : SFits w64 x) (l-fits : SFits w64 l) (x-near : Wit
 
 -- ---- one pair
 
-not-number : {a : ℤ} → unlimited ≡ number a → ⊥
+pub not-number : {a : ℤ} → unlimited ≡ number a → ⊥
 not-number {a} e = <ᴸ-not-≤ᴸ (finite a) (≤ᴸ-of e)
 
-number-same : {a b : ℤ} → number a ≡ number b → a ≡ b
+pub number-same : {a b : ℤ} → number a ≡ number b → a ≡ b
 number-same {a} {b} e =
     let up : a ≤ℤ b = number-≤ (≤ᴸ-of e) in
     let down : b ≤ℤ a = number-≤ (≤ᴸ-of (sym e)) in

@@ -53,7 +53,7 @@ places s = simp length-map at (s .good .0 .1 .1 .0 .1 .0 .1)
 
 -- what stands past an array's end, which is never read
 abbrev past : HeldPair
-past = record { l = pos 0; «l_unlimited» = false; w = pos 0; «w_unlimited» = false }
+past = record { l = pos 0; w = pos 0; «l_unlimited» = false; «w_unlimited» = false }
 
 returns : tie.Need-returns Inv-loop μ-loop
 returns c =
