@@ -1,6 +1,6 @@
 -- Laws of the composition of two pairs, as the code forms it.
 --     held-limit, plain-back              a limit made of its number and its flag, also where the number is read back from its bits
---     far-never, far-by, near-number      whether a limit is far, by its flag and a test of its number
+--     far-never, far-by, near-number, near-limit    whether a limit is far, by its flag and a test of its number
 --     sum-left, sum-right, sum-numbers    the sum of two limits, by their flags
 --     lesser-second, lesser-first         the lesser of two limits, by a test
 --     l-far, w-far, step-far              where a limit that was to be added is far
@@ -21,9 +21,8 @@ use Rattle.sets.specs.Promise.{Near, Addable}
 use Rattle.sets.specs.Parts.{BelowChecked, BoundChecked, FarChecked, LesserIs}
 use Rattle.sets.specs.declared.sums.Limit.{Limit as HeldLimit}
 use Rattle.sets.specs.declared.Pair.{Pair as HeldPair}
-use Rattle.sets.proofs.Limits.{≤ᴸ-refl, ≤ᴸ-antisym, <ᴸ-≤ᴸ, lesser-left, lesser-right, lesser-greatest}
+use Rattle.sets.proofs.Limits.{not-number, number-same, ≤ᴸ-refl, ≤ᴸ-antisym, <ᴸ-≤ᴸ, lesser-left, lesser-right, lesser-greatest}
 use Rattle.sets.proofs.Holding.{flag-back, limit-back}
-use Rattle.sets.proofs.Reaching.{not-number, number-same}
 
 pub held-limit : (a x : ℤ) (f : Bool) → x ≡ numeral (limit a f) → _≡_ {A = HeldLimit} (record { number = x; unlimited = f }) (heldLimit (limit a f))
 held-limit a x f e = λ i. record { number = e i; unlimited = sym (flag-back a f) i }
@@ -59,7 +58,9 @@ module _ (a b : ℤ) (f g : Bool) where
   pub sum-right : f ≡ false → g ≡ true → _≡_ {A = HeldLimit} (record { number = pos 0; unlimited = true }) (heldLimit (limit a f +ᴸ limit b g))
   sum-right e h = rw (e, h) refl
 
-  pub sum-numbers : (y : ℤ) → f ≡ false → g ≡ false → y ≡ a +ℤ b → _≡_ {A = HeldLimit} (record { number = y; unlimited = false }) (heldLimit (limit a f +ᴸ limit b g))
+  pub sum-numbers :
+      (y : ℤ) → f ≡ false → g ≡ false → y ≡ a +ℤ b
+      → _≡_ {A = HeldLimit} (record { number = y; unlimited = false }) (heldLimit (limit a f +ᴸ limit b g))
   sum-numbers y e h same = rw (e, h, same) refl
 
 -- ---- the lesser

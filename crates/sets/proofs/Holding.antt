@@ -31,7 +31,9 @@ numeral-number a false e = refl
 numeral-number a true e = absurd (true≢false e)
 
 -- of a number that is read back from its bits, handed on and read back again
-pub numeral-back : (a z : ℤ) (f : Bool) → mag a < 2 ^ hbits w64 → mag z < 2 ^ hbits w64 → z ≡ numeral (limit (toZ w64 (ofZ w64 a)) f) → toZ w64 (ofZ w64 z) ≡ numeral (limit a f)
+pub numeral-back :
+    (a z : ℤ) (f : Bool) → mag a < 2 ^ hbits w64 → mag z < 2 ^ hbits w64 → z ≡ numeral (limit (toZ w64 (ofZ w64 a)) f)
+    → toZ w64 (ofZ w64 z) ≡ numeral (limit a f)
 numeral-back a z f h k e =
     let read : toZ w64 (ofZ w64 a) ≡ a = toZ-ofZ (record { sfits = h }) in
     toZ-ofZ (record { sfits = k }) ∙ (rw read at e)

@@ -108,7 +108,8 @@ returns-4 c =
     let q = pairOf (start known .args .q) in
     let long-fits : SFits w64 (first .sum .result .number) = search (needs, c .before .struct-told5 .given) in
     let high-fits : SFits w64 (least .lesser-limit .result .number) = search needs in (
-      composed-is p q _ _ _ _ _ _ _ (l-is known) (w-is known) (step-is known) (cap-is known) (first .sum .ensures) (second .sum2 .ensures) (least .lesser-limit .ensures)
+      composed-is p q _ _ _ _ _ _ _ (l-is known) (w-is known) (step-is known) (cap-is known)
+          (first .sum .ensures) (second .sum2 .ensures) (least .lesser-limit .ensures)
           _ _ (toZ-ofZ long-fits) (toZ-ofZ high-fits),
       record {
         l-near = near-limit _ (p .l) _ (l-is known) (one .if1 .left) (one .before .far .ensures);

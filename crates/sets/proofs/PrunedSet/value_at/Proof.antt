@@ -71,7 +71,8 @@ returns-2 c =
     let loop = turn .before .before .before in
     let s = loop .before .before .before in
     simp (toZ-ofZ (s .fits .x)) at
-    (place-outside (s .args .self .pairs) past _ (loop .loop .i) (omega (arith, places s)) _ (turn .pair-value .ensures) (s .args .self .count) (omega arith) (c .enum-told2 .given .1))
+    (place-outside (s .args .self .pairs) past _ (loop .loop .i) (omega (arith, places s)) _ (turn .pair-value .ensures)
+    (s .args .self .count) (omega arith) (c .enum-told2 .given .1))
 
 add-i : tie.Need-add-i Inv-loop μ-loop
 add-i c = omega arith
