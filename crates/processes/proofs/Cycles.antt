@@ -31,7 +31,8 @@ use Rattle.verdicts.proofs.Verdicts.{rest-of}
 use Rattle.refusals.specs.Faults.{EndsKnown}
 use Rattle.separation.specs.declared.Answer.{Answer}
 use Rattle.separation.specs.Promise as analysis
-use Rattle.separation.specs.Coarse.{StepOutside, CoarseVerdict}
+use Rattle.rounding.specs.Promise.{StepOutside}
+use Rattle.separation.specs.Coarse.{CoarseVerdict}
 use Rattle.separation.proofs.Verdicts.{step-kept}
 use Rattle.processes.specs.declared.Event.{Event}
 use Rattle.processes.specs.declared.Unfolded.{Unfolded}
