@@ -33,7 +33,7 @@ use Rattle.separation.specs.declared.Answer.{Answer}
 use Rattle.separation.specs.Promise as analysis
 use Rattle.rounding.specs.Promise.{StepOutside}
 use Rattle.separation.specs.Coarse.{CoarseVerdict}
-use Rattle.separation.proofs.Verdicts.{step-kept}
+use Rattle.rounding.proofs.Promises.{step-kept}
 use Rattle.processes.specs.declared.Event.{Event}
 use Rattle.processes.specs.declared.Unfolded.{Unfolded}
 use Rattle.processes.specs.Process.{ProcessGraph, templates, source, target, occurrence, Node, at, number, Instance, together, onward, start}
