@@ -43,7 +43,7 @@ use Rattle.verdicts.proofs.Verdicts.{
 use Rattle.graphs.specs.Graph.{Graph, rules}
 use Rattle.graphs.specs.Path.{HasCycle, Reachable}
 use Rattle.graphs.specs.Limits.{CountsKept, EndsKept, DelaysKept, Sized}
-use Rattle.graphs.specs.Refusal.{CountsOutside, UnknownEvent, DelayOutside, MissingEnd, source-missing, target-missing, Unreached, graphChecks, questionChecks, pathChecks, GraphVerdict}
+use Rattle.graphs.specs.Refusal.{CountsOutside, UnknownEvent, DelayBeyond, MissingEnd, source-missing, target-missing, Unreached, graphChecks, questionChecksTo, pathChecks, GraphVerdict, questionChecks}
 use Rattle.graphs.proofs.Unique.{counts-not-outside, ends-kept, delays-kept, sized-of}
 
 -- ---- one place
@@ -57,7 +57,7 @@ missing-end-unique p q (target-missing h m) (target-missing i l) = refl
 pub graph-places : (g : Graph) → OnePlaces (graphChecks g)
 graph-places g = (at-zero-unique, (lowest-unique, (lowest-unique, tt)))
 
-pub question-places : (g : Graph) (s t : ℕ) (Short : Type 0) → OnePlaces (questionChecks g s t Short)
+pub question-places : {b : ℕ} (g : Graph) (s t : ℕ) (Short : Type 0) → OnePlaces (questionChecksTo b g s t Short)
 question-places g s t Short = (at-zero-unique, (lowest-unique, (lowest-unique, (missing-end-unique, tt))))
 
 pub path-places : (g : Graph) → OnePlaces (pathChecks g)
@@ -72,7 +72,7 @@ module _ {g : Graph} where
   pub ends-miss : ((i : ℕ) → i < rules g → EndsKept g i) → Misses (Lowest (UnknownEvent g))
   ends-miss ends p a = ends-kept (ends p (a .holds .is-rule)) (a .holds)
 
-  pub delays-miss : ((i : ℕ) → i < rules g → DelaysKept 1000000 g i) → Misses (Lowest (DelayOutside g))
+  pub delays-miss : {b : ℕ} → ((i : ℕ) → i < rules g → DelaysKept b g i) → Misses (Lowest (DelayBeyond b g))
   delays-miss delays p a = delays-kept (delays p (a .holds .is-rule)) (a .holds)
 
   pub missing-end-misses : {s t : ℕ} → s < g .events → t < g .events → Misses (MissingEnd g s t)
@@ -88,7 +88,7 @@ module _ {g : Graph} where
   pub graph-none : Sized 1000000 g → NoneApplies (graphChecks g)
   graph-none sized = (λ p a. counts-not-outside (sized .counts) (a .holds), (ends-miss (sized .ends), (delays-miss (sized .delays), tt)))
 
-  pub question-none : {s t : ℕ} {Short : Type 0} → (Short → ⊥) → Sized 1000000 g → s < g .events → t < g .events → NoneApplies (questionChecks g s t Short)
+  pub question-none : {b s t : ℕ} {Short : Type 0} → (Short → ⊥) → Sized b g → s < g .events → t < g .events → NoneApplies (questionChecksTo b g s t Short)
   question-none room sized hs ht = (counts-miss room (sized .counts), (ends-miss (sized .ends), (delays-miss (sized .delays), (missing-end-misses hs ht, tt))))
 
   pub path-none : (HasCycle g → ⊥) → ((v : ℕ) → v < g .events → Reachable g v) → NoneApplies (pathChecks g)
@@ -99,7 +99,7 @@ module _ {g : Graph} where
   pub graph-sized : NoneApplies (graphChecks g) → Sized 1000000 g
   graph-sized none = sized-of (λ o. none .0 0 (record { zero-place = refl; holds = o })) (none .1 .0) (none .1 .1 .0)
 
-  pub question-sized : {s t : ℕ} {Short : Type 0} → NoneApplies (questionChecks g s t Short) → Sized 1000000 g
+  pub question-sized : {b s t : ℕ} {Short : Type 0} → NoneApplies (questionChecksTo b g s t Short) → Sized b g
   question-sized none = sized-of (λ o. none .0 0 (record { zero-place = refl; holds = inl o })) (none .1 .0) (none .1 .1 .0)
 
   pub path-kept : NoneApplies (pathChecks g) → HasCycle g → ⊥
@@ -123,7 +123,7 @@ cycle-exactly {g} {j} {p} v = (cycle-of, λ c. one-verdict (pathChecks g) (path-
 pub short-at : {A B C : Type 0} → (A → B) → (p : ℕ) → AtZero (C ⊎ A) p → AtZero (C ⊎ B) p
 short-at f p a = record { zero-place = a .zero-place; holds = ⊎-elim inl (λ x. inr (f x)) (a .holds) }
 
-pub short-alike : {A B : Type 0} → (A → B) → (B → A) → {g : Graph} {s t : ℕ} → Alike (questionChecks g s t A) (questionChecks g s t B)
+pub short-alike : {A B : Type 0} → (A → B) → (B → A) → {b : ℕ} {g : Graph} {s t : ℕ} → Alike (questionChecksTo b g s t A) (questionChecksTo b g s t B)
 short-alike f h = more-alike (short-at f) (short-at h) (alike-refl _)
 
 -- ---- a graph alone

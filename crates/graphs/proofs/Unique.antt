@@ -19,7 +19,7 @@ use Rattle.graphs.specs.Path.{Depth}
 use Rattle.graphs.specs.Limits.{CountsKept, EndsKept, DelaysKept, Sized}
 use Rattle.verdicts.specs.Verdict.{Lowest}
 use Rattle.verdicts.proofs.Verdicts.{none-lowest}
-use Rattle.graphs.specs.Refusal.{CountsOutside, no-events, many-events, many-rules, targets-differ, leasts-differ, mosts-differ, UnknownEvent, OutsideDelays, least-low, least-high, most-low, most-high, crossed, DelayOutside}
+use Rattle.graphs.specs.Refusal.{CountsOutside, no-events, many-events, many-rules, targets-differ, leasts-differ, mosts-differ, UnknownEvent, BeyondDelays, least-low, least-high, most-low, most-high, crossed, DelayBeyond}
 
 pub depth-unique : {g : Graph} {v j k : ℕ} → Depth g v j → Depth g v k → j ≡ k
 depth-unique a b =
@@ -71,29 +71,29 @@ ends-kept {g} {i} kept u = by (u .unknown)
 not-less : {a b : ℤ} → (a <ℤ b → ⊥) → b ≤ℤ a
 not-less {a} {b} h = let k : P a + N b < P b + N a → ⊥ = λ l. h (<ℤ-from l) in omega linear
 
-pub inside-delays : {g : Graph} {i : ℕ} → i < rules g → (DelayOutside g i → ⊥) → DelaysKept 1000000 g i
-inside-delays {g} {i} l inside =
-    let kept : OutsideDelays (least g i) (most g i) → ⊥ = λ o. inside (record { is-rule = l; outside = o }) in
+pub inside-delays : {b : ℕ} {g : Graph} {i : ℕ} → i < rules g → (DelayBeyond b g i → ⊥) → DelaysKept b g i
+inside-delays {b} {g} {i} l inside =
+    let kept : BeyondDelays b (least g i) (most g i) → ⊥ = λ o. inside (record { is-rule = l; outside = o }) in
     record {
       least-within = record { above = not-less (λ h. kept (least-low h)); below = not-less (λ h. kept (least-high h)) };
       most-within = record { above = not-less (λ h. kept (most-low h)); below = not-less (λ h. kept (most-high h)) };
       ordered = not-less (λ h. kept (crossed h));
     }
 
-pub delays-kept : {g : Graph} {i : ℕ} → DelaysKept 1000000 g i → DelayOutside g i → ⊥
-delays-kept {g} {i} kept d = by (d .outside)
+pub delays-kept : {b : ℕ} {g : Graph} {i : ℕ} → DelaysKept b g i → DelayBeyond b g i → ⊥
+delays-kept {b} {g} {i} kept d = by (d .outside)
   where
-    by : OutsideDelays (least g i) (most g i) → ⊥
-    by (least-low h) = omega (linear, negation (pos 1000000), kept .least-within .above)
+    by : BeyondDelays b (least g i) (most g i) → ⊥
+    by (least-low h) = omega (linear, negation (pos b), kept .least-within .above)
     by (least-high h) = omega (linear, kept .least-within .below)
-    by (most-low h) = omega (linear, negation (pos 1000000), kept .most-within .above)
+    by (most-low h) = omega (linear, negation (pos b), kept .most-within .above)
     by (most-high h) = omega (linear, kept .most-within .below)
     by (crossed h) = omega (linear, kept .ordered)
 
 -- ---- refusals 1 to 3
 
-pub sized-of : {g : Graph} → (CountsOutside g → ⊥) → ((p : ℕ) → Lowest (UnknownEvent g) p → ⊥) → ((p : ℕ) → Lowest (DelayOutside g) p → ⊥) → Sized 1000000 g
-sized-of {g} no-1 no-2 no-3 =
+pub sized-of : {b : ℕ} {g : Graph} → (CountsOutside g → ⊥) → ((p : ℕ) → Lowest (UnknownEvent g) p → ⊥) → ((p : ℕ) → Lowest (DelayBeyond b g) p → ⊥) → Sized b g
+sized-of {b} {g} no-1 no-2 no-3 =
     record {
       counts = counts-kept no-1;
       ends = λ i l. known-ends l (none-lowest no-2 i);

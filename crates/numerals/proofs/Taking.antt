@@ -19,7 +19,8 @@ use lib.ListN.{length, getD, drop, length-append, drop-of-length-le}
 use lib.Seq.{drop-cons, append-snoc}
 use borrow.Author.Tests.{leb-true, leb-false, eqb-true, eqb-false, not-true, not-false}
 use Rattle.numerals.specs.Numbers.{IsDigit, Digits, value, valueFrom}
-use Rattle.numerals.specs.Fields.{Stops, ByteAt, DigitAt, NumberAt}
+use Rattle.numerals.specs.Fields.{Stops, ByteAt, NumberAt}
+use Rattle.numerals.specs.Parts.Digits.{DigitAt}
 use Rattle.numerals.proofs.Cutting.{reach}
 use Rattle.numerals.proofs.Cuts.{digits-each, digits-below}
 

@@ -1,11 +1,11 @@
 -- Laws of numbers written into a lent list.
---     Left x k rest, left-none, left-more, left-done   while the digits of x are counted: k of them, and those of rest beyond the first
+--     DigitsLeft x k rest, left-none, left-more, left-done   while the digits of x are counted: k of them, and those of rest beyond the first
 --     word-places                    a word has at most 20 digits
 --     Room, DigitsPut                there is room for the digits; they are written
 --     put-one, put-more, tenth-room  a number below ten; and another, after its tenth part, for which there is room too
 --     natural-full, natural-put      no room for a number; and room
 --     integer-full, minus-full, put-plain, put-minus   the same with a sign
---     Below, below                   how far below zero a word is, as the code forms it
+--     FarBelow, below                   how far below zero a word is, as the code forms it
 --     plain-cast, put-plain-word, minus-full-word, put-minus-word      the same of words
 -- Assumes nothing.
 use mathlib.Core.Path.{_≡_, refl, ap, sym, subst, _∙_}
@@ -32,14 +32,14 @@ use Rattle.numerals.proofs.Decimal.{natural-one, natural-more, natural-
 
 -- ---- how many digits
 
-pub record Left (x k rest : ℕ) : Type 0 where
+pub record DigitsLeft (x k rest : ℕ) : Type 0 where
   pub few : k + rest ≤ x + 1
   pub front : (bs : List ℕ) → Natural bs x → (front : List ℕ) × Natural front rest × (length bs + 1 ≡ length front + k)
 
-pub left-none : {x : ℕ} → Left x 1 x
+pub left-none : {x : ℕ} → DigitsLeft x 1 x
 left-none = record { few = omega arith; front = λ bs w. (bs, w, refl) }
 
-pub left-more : {x k rest : ℕ} → 10 ≤ rest → Left x k rest → Left x (k + 1) (rest / 10)
+pub left-more : {x k rest : ℕ} → 10 ≤ rest → DigitsLeft x k rest → DigitsLeft x (k + 1) (rest / 10)
 left-more {x} {k} {rest} l h =
     record {
       few = omega (arith, h .few, div-add-mod rest 10);
@@ -49,7 +49,7 @@ left-more {x} {k} {rest} l h =
           (next, u, omega (arith, e, f));
     }
 
-pub left-done : {x k rest : ℕ} → rest < 10 → Left x k rest → (bs : List ℕ) → Natural bs x → length bs ≡ k
+pub left-done : {x k rest : ℕ} → rest < 10 → DigitsLeft x k rest → (bs : List ℕ) → Natural bs x → length bs ≡ k
 left-done l h bs w =
     let (front, v, e) = h .front bs w in
     omega (arith, e, one-digit l v)
@@ -122,7 +122,7 @@ word z = toZ w64 (ofZ w64 z)
 abbrev far : ℤ → ℤ
 far z = word (pos 0 -ℤ word (word z +ℤ pos 1))
 
-pub record Below (z : ℤ) : Type 0 where
+pub record FarBelow (z : ℤ) : Type 0 where
   pub next-fits : SFits w64 (word z +ℤ pos 1)
   pub far-fits : SFits w64 (pos 0 -ℤ word (word z +ℤ pos 1))
   pub not-negative : T (nonNeg (far z))
@@ -149,7 +149,7 @@ module _ (n : ℕ) (s : n < 2 ^ 63) where
   far-word : far (negsuc n) ≡ pos n
   far-word = rw (far-n, read-back w64 n (pos n) s within-plain) refl
 
-  below-n : Below (negsuc n)
+  below-n : FarBelow (negsuc n)
   below-n =
       record {
         next-fits = rw next-n (within-fits w64 n (negℤ (pos n)) s within-minus);
@@ -160,7 +160,7 @@ module _ (n : ℕ) (s : n < 2 ^ 63) where
         is-far = rw far-word (omega arith);
       }
 
-pub below : (z : ℤ) → z <ℤ pos 0 → SFits w64 z → Below z
+pub below : (z : ℤ) → z <ℤ pos 0 → SFits w64 z → FarBelow z
 below (pos x) l f = absurd (let no : ⊥ = omega linear in no)
 below (negsuc n) l f = below-n n (f .sfits)
 

@@ -1,7 +1,6 @@
 -- What stands at one place of a list of bytes. The bytes from a place on are `drop at bs`; beyond the end there are none.
 --     Stops rest          == rest begins with no digit
 --     ByteAt bs at b t    == t says whether byte b stands at that place
---     DigitAt bs at t     == t says whether a digit does
 --     NumberAt bs at a    == a says whether an event number stands there, which, and where it stops; else value 0, and the place
 --     FieldAt bs at a     == the same of a delay
 -- A field stops at the first byte that is no digit (docs/DECISIONS.md). Assumes nothing.
@@ -10,7 +9,7 @@ use mathlib.Core.Bool.{Bool, true, false}
 use mathlib.Core.List.{List, _∷_, _++_}
 use Prim.Native.Nat.{ℕ, suc, _<_, _≤_}
 use lib.IntN.{ℤ, pos}
-use lib.ListN.{length, getD, drop}
+use lib.ListN.{length, drop}
 use Rattle.numerals.specs.Numbers.{IsDigit, Number, Field}
 use Rattle.numerals.specs.declared.EventField.{EventField}
 use Rattle.numerals.specs.declared.DelayField.{DelayField}
@@ -21,10 +20,6 @@ Stops rest = (b : ℕ) (after : List ℕ) → rest ≡ b ∷ after → IsDigit b
 pub record ByteAt (bs : List ℕ) (at b : ℕ) (t : Bool) : Type 0 where
   pub right : t ≡ true → (at < length bs) × (drop at bs ≡ b ∷ drop (suc at) bs)
   pub wrong : t ≡ false → (after : List ℕ) → drop at bs ≡ b ∷ after → ⊥
-
-pub record DigitAt (bs : List ℕ) (at : ℕ) (t : Bool) : Type 0 where
-  pub right : t ≡ true → (at < length bs) × IsDigit (getD bs at 0)
-  pub wrong : t ≡ false → Stops (drop at bs)
 
 pub record NumberAt (bs : List ℕ) (at : ℕ) (a : EventField) : Type 0 where
   pub within : at ≤ length bs → a .next ≤ length bs

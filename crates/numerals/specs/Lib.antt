@@ -1,4 +1,6 @@
--- Numbers in decimal, as bytes: what stands at a place of a list of bytes, and what is written at one. A reader of the promises needs all but `DigitAt`.
+-- Numbers in decimal, as bytes: what stands at a place of a list of bytes, and what is written at one. Parts holds what the functions within say to one
+-- another.
 pub mod Numbers
 pub mod Fields
 pub mod Appending
+pub mod Parts

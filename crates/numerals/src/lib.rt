@@ -13,7 +13,8 @@ ghost use lib.IntN.{pos, natAbs};
 ghost use lib.Signed.{_<ℤ_};
 ghost use lib.ListN.{length};
 ghost use Rattle.numerals.specs.Numbers.{Natural};
-ghost use Rattle.numerals.specs.Fields.{ByteAt, DigitAt, NumberAt, FieldAt};
+ghost use Rattle.numerals.specs.Fields.{ByteAt, NumberAt, FieldAt};
+ghost use Rattle.numerals.specs.Parts.Digits.{DigitAt};
 ghost use Rattle.numerals.specs.Appending.{Appended, Put, NaturalPut, IntegerPut};
 
 // Whether an event number stands at a place, which, and where it stops.

@@ -28,11 +28,12 @@ use Rattle.graphs.specs.Path.{Path, stay, step, steps, HasCycle}
 use Rattle.graphs.proofs.Refusals.{cycle-exactly}
 use Rattle.verdicts.specs.Verdict.{check}
 use Rattle.verdicts.proofs.Verdicts.{rest-of}
-use Rattle.faults.specs.Faults.{EndsKnown}
+use Rattle.refusals.specs.Faults.{EndsKnown}
 use Rattle.separation.specs.declared.Answer.{Answer}
 use Rattle.separation.specs.Promise as analysis
-use Rattle.separation.specs.Coarse.{StepOutside, CoarseVerdict}
-use Rattle.separation.proofs.Verdicts.{step-kept}
+use Rattle.rounding.specs.Promise.{StepOutside}
+use Rattle.separation.specs.Coarse.{CoarseVerdict}
+use Rattle.rounding.proofs.Promises.{step-kept}
 use Rattle.processes.specs.declared.Event.{Event}
 use Rattle.processes.specs.declared.Unfolded.{Unfolded}
 use Rattle.processes.specs.Process.{ProcessGraph, templates, source, target, occurrence, Node, at, number, Instance, together, onward, start}

@@ -22,7 +22,7 @@ use Rattle.graphs.specs.Graph.{Graph, graphOf, rules}
 use Rattle.graphs.specs.Limits.{EndsKept, DelaysKept, Sized}
 use Rattle.graphs.specs.Refusal.{questionChecks, pathChecks}
 use Rattle.graphs.proofs.Refusals.{question-none}
-use Rattle.faults.specs.Faults.{InsideDelays}
+use Rattle.refusals.specs.Faults.{InsideDelays}
 use Rattle.separation.specs.Promise as analysis
 use Rattle.processes.specs.declared.Unfolded.{Unfolded}
 use Rattle.processes.specs.Process.{ProcessGraph, templates, source, target, Node, number, Instance, together, onward, start}

@@ -22,7 +22,7 @@ use Rattle.graphs.specs.Graph.{Graph, graphOf}
 use Rattle.graphs.specs.Limits.{EndsKept, DelaysKept}
 use Rattle.graphs.proofs.Refusals.{short-at}
 use Rattle.graphs.proofs.Unique.{known-ends, ends-kept, inside-delays, delays-kept}
-use Rattle.processes.specs.Inner.Checks.{ProcessCountsKept, MarkKept}
+use Rattle.processes.specs.Parts.Checks.{ProcessCountsKept, MarkKept}
 use Rattle.processes.specs.Process.{ProcessGraph, templates, mark}
 use Rattle.processes.specs.Unfolding.{
   ProcessCountsOutside,

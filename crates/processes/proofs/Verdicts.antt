@@ -18,12 +18,12 @@ use Rattle.verdicts.specs.Verdict.{given, passed, Accepted, Lowest, LowestOr}
 use Rattle.verdicts.proofs.Verdicts.{none-accepted, then-alike}
 use Rattle.verdicts.proofs.Searches.{lowest-bad, as-long}
 use Rattle.graphs.specs.Limits.{EndsKept, DelaysKept}
-use Rattle.faults.specs.Faults.{EndsKnown, EndUnknown, InsideDelays, DelaysInside, DelaysOutside}
-use Rattle.faults.proofs.Unique.{known-not-unknown, inside-not-outside}
+use Rattle.refusals.specs.Faults.{EndsKnown, EndUnknown, InsideDelays, DelaysInside, DelaysOutside}
+use Rattle.refusals.proofs.Unique.{known-not-unknown, inside-not-outside}
 use Rattle.processes.specs.declared.Unfolded.{Unfolded}
 use Rattle.processes.specs.Process.{ProcessGraph, templates, least, most}
 use Rattle.processes.specs.Unfolding.{ProcessCountsOutside, ShortRuleLists, short-sources, short-targets, short-leasts, short-mosts, UnknownTemplateEvent, TemplateDelayOutside, MarkOutside, processChecks, UnfoldingVerdict, UnfoldingAnswered}
-use Rattle.processes.specs.Inner.Checks.{ProcessCountsKept, MarkKept, MarkBroken, ProcessKept, ProcessChecked}
+use Rattle.processes.specs.Parts.Checks.{ProcessCountsKept, MarkKept, MarkBroken, ProcessKept, ProcessChecked}
 use Rattle.processes.proofs.Refusals.{plain, counts-miss, ends-miss, delays-miss, process-none, short-alike}
 
 module _ (g : ProcessGraph) where

@@ -20,12 +20,12 @@ use lib.ListN.{length, getD, take, drop, set, length-set}
 use lib.Seq.{getD-set-same, getD-set-other, drop-set-lt, getD-take, length-take-le}
 use Rattle.graphs.specs.Graph as rule
 use Rattle.graphs.specs.Graph.{Graph, graphOf}
-use Rattle.faults.specs.Faults.{EndsKnown}
+use Rattle.refusals.specs.Faults.{EndsKnown}
 use Rattle.processes.specs.declared.Unfolded.{Unfolded}
 use Rattle.processes.specs.Process.{ProcessGraph, templates, source, target, least, most, mark, occurrence, Node, root, at, Instance, together, onward, start}
 use Rattle.processes.specs.Unfolding.{RuleAt, Unfolds, UnfoldingWritten}
-use Rattle.processes.specs.Inner.Checks.{ProcessCountsKept, MarkKept, ProcessKept}
-use Rattle.processes.specs.Inner.Writing.{InstanceSource, InstanceDelay, InstanceWritten, InstancesWritten}
+use Rattle.processes.specs.Parts.Checks.{ProcessCountsKept, MarkKept, ProcessKept}
+use Rattle.processes.specs.Parts.Writing.{InstanceSource, InstanceDelay, InstanceWritten, InstancesWritten}
 use Rattle.processes.proofs.Products.{many, some-factor, copy-below, rule-below, same-copy}
 
 module _ {g : ProcessGraph} {k j : ℕ} where

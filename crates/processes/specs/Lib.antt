@@ -2,4 +2,4 @@
 pub mod Process
 pub mod Ways
 pub mod Unfolding
-pub mod Inner
+pub mod Parts

@@ -2,7 +2,7 @@
 ghost use lib.ListN.{length};
 ghost use Rattle.verdicts.specs.Verdict.{LowestOr};
 ghost use Rattle.processes.specs.Process.{processOf};
-ghost use Rattle.processes.specs.Inner.Checks.{ProcessCountsChecked, MarkKept, MarkBroken};
+ghost use Rattle.processes.specs.Parts.Checks.{ProcessCountsChecked, MarkKept, MarkBroken};
 
 const MAX_EVENTS: usize = 1024;
 

@@ -3,7 +3,7 @@ ghost use mathlib.Core.Path.{_≡_};
 ghost use mathlib.Core.Logic.{_⊎_};
 ghost use Prim.Native.Nat.{ℕ, _<_, _≤_};
 ghost use Rattle.processes.specs.Process.{processOf};
-ghost use Rattle.processes.specs.Inner.Checks.{ProcessChecked};
+ghost use Rattle.processes.specs.Parts.Checks.{ProcessChecked};
 use crate::Unfolded;
 use crate::checks::broken_mark;
 use crate::checks::counts_kept;
@@ -54,11 +54,11 @@ pub(crate) fn check_process(
     if places < rules {
         return refused(1, 0);
     }
-    let unknown = faults::unknown_event(p, sources, targets);
+    let unknown = refusals::unknown_event(p, sources, targets);
     if unknown < sources.len() {
         return refused(2, unknown);
     }
-    let outside = faults::outside_delay(leasts, mosts);
+    let outside = refusals::outside_delay(leasts, mosts);
     if outside < leasts.len() {
         return refused(3, outside);
     }

@@ -3,8 +3,8 @@ ghost use mathlib.Core.Path.{_≡_};
 ghost use Prim.Native.Nat.{ℕ, _+_, _*_, _<_, _≤_};
 ghost use lib.ListN.{length, getD};
 ghost use Rattle.processes.specs.Process.{processOf};
-ghost use Rattle.processes.specs.Inner.Checks.{ProcessKept};
-ghost use Rattle.processes.specs.Inner.Writing.{InstanceSource, InstanceDelay, InstanceWritten, InstancesWritten};
+ghost use Rattle.processes.specs.Parts.Checks.{ProcessKept};
+ghost use Rattle.processes.specs.Parts.Writing.{InstanceSource, InstanceDelay, InstanceWritten, InstancesWritten};
 use crate::Event;
 use crate::Occurrence;
 

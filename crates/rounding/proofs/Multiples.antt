@@ -18,7 +18,7 @@ use Rattle.integers.proofs.Integer.{linear, sum, difference, negation}
 use Rattle.integers.proofs.Division.{multiple-not-above, quotient-near}
 use Rattle.executions.specs.Separation.{Near}
 use Rattle.rounding.specs.Rounding.{Multiple, Down, Up}
-use Rattle.rounding.specs.Beside.{Beside}
+use Rattle.rounding.specs.Parts.Beside.{Beside}
 
 -- ---- one multiple
 

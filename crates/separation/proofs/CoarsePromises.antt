@@ -17,18 +17,19 @@ use Rattle.integers.specs.Within.{Within}
 use Rattle.graphs.specs.Graph.{Graph}
 use Rattle.graphs.specs.Limits.{EventGraph}
 use Rattle.verdicts.specs.Verdict.{check, passed, FirstOf}
-use Rattle.verdicts.proofs.Verdicts.{then-unique, one-verdict, then-more, rest-of}
+use Rattle.verdicts.proofs.Verdicts.{then-unique, one-verdict, then-more, rest-of, passed-all, none-accepted}
 use Rattle.graphs.specs.Refusal.{questionChecks, pathChecks}
-use Rattle.graphs.proofs.Refusals.{question-places, path-places}
+use Rattle.graphs.proofs.Refusals.{question-places, path-places, question-none, path-none}
 use Rattle.graphs.proofs.Unique.{depth-unique}
 use Rattle.executions.specs.Separation.{Separation}
 use Rattle.rounding.specs.Rounding.{Costs}
 use Rattle.graphs.proofs.Limits.{sound-of}
+use Rattle.rounding.specs.Promise.{StepOutside}
+use Rattle.rounding.proofs.Promises.{step-places, step-kept}
 use Rattle.rounding.proofs.Costs.{costs-at-most, coarse-size, coarse-unique, step-one}
 use Rattle.separation.specs.declared.Answer.{Answer}
 use Rattle.separation.specs.Promise.{InputVerdict, PathVerdict, Answered}
-use Rattle.separation.specs.Coarse.{StepOutside, CoarseVerdict, CoarseAnswered}
-use Rattle.separation.proofs.Verdicts.{input-passed, path-0, step-places, step-kept}
+use Rattle.separation.specs.Coarse.{CoarseVerdict, CoarseAnswered}
 use Rattle.separation.proofs.Promises.{answered-exactly, answers-agree}
 
 coarse-verdict-unique : {g : Graph} {r s t : ℕ} {i p j q : ℕ} → CoarseVerdict g r s t i p → CoarseVerdict g r s t j q → (i ≡ j) × (p ≡ q)
@@ -37,8 +38,8 @@ coarse-verdict-unique {g} {r} {s} {t} {i} {p} {j} {q} v w =
 
 -- an event graph with s and t among its events is not refused, where nothing but its paths is looked at after
 not-refused : {g : Graph} {s t : ℕ} {Short : Type 0} {Rest : ℕ → ℕ → Type 0} → EventGraph 1000000 g → s < g .events → t < g .events → (Short → ⊥) → (PathVerdict g 0 0 → Rest 0 0) → InputVerdict g s t Short Rest 0 0
-not-refused eg hs ht room after =
-    input-passed (record { sized = eg .sized; long-enough = room; source-known = hs; target-known = ht }) (after (path-0 (eg .acyclic) (eg .reachable)))
+not-refused {g} {s} {t} {Short} {Rest} eg hs ht room after =
+    passed-all (questionChecks g s t Short) Rest 0 0 (question-none room (eg .sized) hs ht) (after (none-accepted (pathChecks g) (path-none (eg .acyclic) (eg .reachable))))
 
 module _ {g : Graph} {q s t : ℕ} where
   pub coarse-answer-unique : {a b : Answer} → CoarseAnswered g q s t a → CoarseAnswered g q s t b → a ≡ b

@@ -7,7 +7,7 @@
 --     exact-within, least-of-exchanged, answers-near    the sizes, the least value, and demand 3's first sentence, of answers
 --     schedule-unique    all of it: two results of `schedule` are equal
 -- Assumes nothing.
-use mathlib.Core.Path.{_≡_, refl, sym, subst, _∙_}
+use mathlib.Core.Path.{_≡_, sym, subst, _∙_}
 use mathlib.Core.List.{List}
 use Prim.Native.Nat.{ℕ, _+_, _*_}
 use native.Mathlib.Decide.{ℕ-discrete}
@@ -17,6 +17,7 @@ use Rattle.graphs.specs.Graph.{Graph, rules}
 use Rattle.graphs.proofs.Limits.{sound-of}
 use Rattle.graphs.proofs.Unique.{depth-unique}
 use Rattle.integers.specs.Within.{Within}
+use Rattle.sequences.proofs.Same.{same-places}
 use Rattle.executions.specs.Separation.{LeastSeparation, SameRules, Near, DelaysNear}
 use Rattle.executions.proofs.Nearness.{maxima-near}
 use Rattle.executions.proofs.Sizes.{exact-size}

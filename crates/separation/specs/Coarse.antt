@@ -1,11 +1,9 @@
 -- The promise of the coarse form. Document 01, sections "Coarse form" and "Refusal numbers"; demand 3, second sentence.
---     StepOutside q p         == refusal 9: "q is 0 or above 1,000", place q
 --     CoarseVerdict g q s t   == the refusals 1, 2, 3, 4, 9, 5, 6, in this order
 --     CoarseFound g q s t a   == the values of an answer that is no refusal
 --     CoarseAnswered g q s t a == a is the answer: the verdict's number and place, and the values where nothing is refused
--- That the answer is never below the exact maximum, and how far above it may be, is proved in proofs/CoarsePromises.antt. Assumes nothing.
+-- `StepOutside`, refusal 9, is in rounding/specs/Promise.antt. That the answer is never below the exact maximum, and how far above it may be, is proved in proofs/CoarsePromises.antt. Assumes nothing.
 use mathlib.Core.Path.{_≡_}
-use mathlib.Core.Logic.{_⊎_}
 use mathlib.Core.List.{_∷_}
 use Prim.Native.Nat.{ℕ, _<_, _≤_}
 use Rattle.graphs.specs.Graph.{Graph}
@@ -14,12 +12,9 @@ use Rattle.graphs.specs.Limits.{EventGraph}
 use Rattle.verdicts.specs.Verdict.{check, FirstOf}
 use Rattle.graphs.specs.Refusal.{pathChecks}
 use Rattle.rounding.specs.Rounding.{CoarseSeparation}
+use Rattle.rounding.specs.Promise.{StepOutside}
 use Rattle.separation.specs.declared.Answer.{Answer}
 use Rattle.separation.specs.Promise.{InputVerdict, Nothing}
-
-pub record StepOutside (q p : ℕ) : Type 0 where
-  pub its-place : p ≡ q
-  pub outside : (q ≡ 0) ⊎ (1000 < q)
 
 -- "analysis 1, 2, 3, 4, 9 (coarse form only), 5, 6"; no list is lent
 abbrev pub CoarseVerdict : Graph → ℕ → ℕ → ℕ → ℕ → ℕ → Type 0

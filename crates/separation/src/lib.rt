@@ -7,28 +7,17 @@ ghost use Rattle.graphs.specs.Graph.{graphOf};
 ghost use Rattle.separation.specs.Promise.{Answered, ShortLists, Written};
 ghost use Rattle.separation.specs.Coarse.{CoarseAnswered};
 
-mod analysis;
 mod answers;
-mod checks;
-mod coarse;
-mod depths;
-mod input;
-mod latest;
-mod links;
 mod lists;
-mod order;
-mod paths;
-mod rounded;
 
-use crate::analysis::analyse;
+use crate::answers::analysed;
+use crate::answers::analysed_rounded;
 use crate::answers::refused;
-use crate::coarse::analyse_rounded;
-use crate::coarse::step_outside;
-use crate::input::check_input;
 use crate::lists::too_short;
 use crate::lists::write_delays;
 use crate::lists::write_times;
-use crate::rounded::round_delays;
+
+const MAX_DELAY: usize = 1000000;
 
 // The answer to a question of separation. `refusal` is 0, or the number of document 01's table, with its place.
 pub struct Answer {
@@ -51,12 +40,18 @@ pub fn separation(
 ) -> Answer
     ensures { λ r. ⌜ Answered (graphOf n (now (sources .entry)) (now (targets .entry)) (now (leasts .entry)) (now (mosts .entry))) s t ⊥ r ⌝ }
 {
-    let input = check_input(n, sources, targets, leasts, mosts, s, t, false);
-    if input.refusal != 0 {
-        return input;
-    }
     let mut latest = [0i64; 1024];
-    analyse(n, sources, targets, leasts, mosts, s, t, &mut latest)
+    analysed(
+        n,
+        sources,
+        targets,
+        leasts,
+        mosts,
+        MAX_DELAY,
+        s,
+        t,
+        &mut latest,
+    )
 }
 
 // The same, and the whole latest schedule against s: the times of the n events and the delays of the rules. Places beyond keep what they held; refused,
@@ -75,13 +70,21 @@ pub fn schedule(
     ensures { λ r. ⌜ Answered (graphOf n (now (sources .entry)) (now (targets .entry)) (now (leasts .entry)) (now (mosts .entry))) s t (ShortLists (graphOf n (now (sources .entry)) (now (targets .entry)) (now (leasts .entry)) (now (mosts .entry))) (now (times .entry)) (now (delays .entry))) r ⌝ }
     ensures { λ r. ⌜ Written (graphOf n (now (sources .entry)) (now (targets .entry)) (now (leasts .entry)) (now (mosts .entry))) s r (now (times .entry)) (now (delays .entry)) (now (times .exit)) (now (delays .exit)) ⌝ }
 {
-    let short = too_short(times.len(), n, delays.len(), sources.len());
-    let input = check_input(n, sources, targets, leasts, mosts, s, t, short);
-    if input.refusal != 0 {
-        return input;
+    if too_short(times.len(), n, delays.len(), sources.len()) {
+        return refused(1, 0);
     }
     let mut latest = [0i64; 1024];
-    let answer = analyse(n, sources, targets, leasts, mosts, s, t, &mut latest);
+    let answer = analysed(
+        n,
+        sources,
+        targets,
+        leasts,
+        mosts,
+        MAX_DELAY,
+        s,
+        t,
+        &mut latest,
+    );
     if answer.refusal != 0 {
         return answer;
     }
@@ -103,15 +106,15 @@ pub fn coarse_separation(
 ) -> Answer
     ensures { λ r. ⌜ CoarseAnswered (graphOf n (now (sources .entry)) (now (targets .entry)) (now (leasts .entry)) (now (mosts .entry))) q s t r ⌝ }
 {
-    let input = check_input(n, sources, targets, leasts, mosts, s, t, false);
-    if input.refusal != 0 {
-        return input;
-    }
-    if step_outside(q) {
-        return refused(9, q);
+    let input = refusals::check_input(n, sources, targets, leasts, mosts, MAX_DELAY, s, t);
+    if input.number != 0 {
+        return refused(input.number, input.place);
     }
     let mut low = [0i64; 4096];
     let mut high = [0i64; 4096];
-    round_delays(q, leasts, mosts, &mut low, &mut high);
-    analyse_rounded(n, sources, targets, &low, &high, s, t)
+    let step = rounding::round_delays(q, leasts, mosts, &mut low, &mut high);
+    if step.number != 0 {
+        return refused(step.number, step.place);
+    }
+    analysed_rounded(n, sources, targets, &low, &high, s, t)
 }

@@ -7,7 +7,8 @@ ghost use lib.IntN.{pos, _-ℤ_};
 ghost use lib.ListN.{length, getD};
 ghost use Rattle.integers.specs.Within.{Within};
 ghost use Rattle.executions.specs.Steps.{Lesser};
-ghost use Rattle.separation.specs.Lists.{Filled, TimeAt, DelayAt, RuleTimed};
+ghost use Rattle.sequences.specs.Filled.{Filled};
+ghost use Rattle.separation.specs.Parts.Lists.{TimeAt, DelayAt, RuleTimed};
 
 // Whether a list of that many times, or of that many delays, is too short.
 pub(crate) fn too_short(times: usize, n: usize, delays: usize, rules: usize) -> bool
@@ -27,7 +28,7 @@ pub(crate) fn too_short(times: usize, n: usize, delays: usize, rules: usize) -> 
 pub(crate) fn write_times(n: usize, latest: &[i64], times: &mut [i64])
     requires { ⌜ (1 ≤ n) × (n ≤ 1024) × (length (now latest) ≡ 1024) × (n ≤ length (now times)) ⌝ }
     requires { ⌜ ((v : ℕ) → v < n → Within 2050048000 (getD (now latest) v (pos 0))) ⌝ }
-    ensures { λ _. ⌜ Filled n (TimeAt (now (latest .entry))) (now (times .entry)) (now (times .exit)) ⌝ }
+    ensures { λ _. ⌜ Filled (pos 0) n (TimeAt (now (latest .entry))) (now (times .entry)) (now (times .exit)) ⌝ }
 {
     let root = latest[0];
     let mut v = 0;
@@ -56,7 +57,7 @@ pub(crate) fn write_delays(
 )
     requires { ⌜ (length (now targets) ≡ length (now sources)) × (length (now mosts) ≡ length (now sources)) × (length (now sources) ≤ 4096) × (length (now sources) ≤ length (now delays)) ⌝ }
     requires { ⌜ ((i : ℕ) → i < length (now sources) → RuleTimed (now sources) (now targets) (now mosts) (now times) i) ⌝ }
-    ensures { λ _. ⌜ Filled (length (now (sources .entry))) (DelayAt (now (sources .entry)) (now (targets .entry)) (now (mosts .entry)) (now (times .entry))) (now (delays .entry)) (now (delays .exit)) ⌝ }
+    ensures { λ _. ⌜ Filled (pos 0) (length (now (sources .entry))) (DelayAt (now (sources .entry)) (now (targets .entry)) (now (mosts .entry)) (now (times .entry))) (now (delays .entry)) (now (delays .exit)) ⌝ }
 {
     let mut i = 0;
     while i < sources.len() {

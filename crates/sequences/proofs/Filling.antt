@@ -2,7 +2,7 @@
 --     Filling z n At old i new  the places before i are written, those from n on are untouched, and the length is kept
 --     filling-none              before the first turn
 --     filling-more              a turn at i writes x there, if At i x
---     filling-done              after the last turn each of the n places is written
+--     filling-done              after the last turn the list is filled
 -- z is what a list has past its end. Assumes nothing.
 use mathlib.Core.Path.{_≡_, refl, _∙_, sym, subst}
 use mathlib.Core.List.{List}
@@ -11,6 +11,7 @@ use native.Mathlib.Omega.{arith}
 use lib.ListN.{length, getD, drop, set, length-set}
 use lib.Seq.{getD-set-same, getD-set-other, drop-set-lt}
 use borrow.Author.Count.{below-none, below-more}
+use Rattle.sequences.specs.Filled.{Filled}
 
 pub record Filling {A : Type 0} (z : A) (n : ℕ) (At : ℕ → A → Type 0) (old : List A) (i : ℕ) (new : List A) : Type 0 where
   pub within : i ≤ n
@@ -36,5 +37,5 @@ module _ {A : Type 0} (z : A) (n : ℕ) (At : ℕ → A → Type 0) (old : List 
         same-length = length-set new i x ∙ f .same-length;
       }
 
-  pub filling-done : (i : ℕ) (new : List A) → Filling z n At old i new → n ≤ i → (v : ℕ) → v < n → At v (getD new v z)
-  filling-done i new f l v h = f .each v (omega arith)
+  pub filling-done : (i : ℕ) (new : List A) → Filling z n At old i new → n ≤ i → Filled z n At old new
+  filling-done i new f l = record { each = λ v h. f .each v (omega arith); beyond = f .beyond }

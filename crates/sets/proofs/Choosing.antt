@@ -1,6 +1,7 @@
 -- Laws of the choices of a selection, as the code makes them.
 --     below-never, below-always, below-numbers     whether a limit is below another, by their flags and numbers
---     prior-of-w, prior-not, prior-of-l            whether a pair goes before another, by three such tests
+--     below-back                                   the same of numbers read back from their bits
+--     prior-yes, prior-no, prior-of-w, prior-of-l  whether a pair goes before another, by three such tests
 --     left-first, left-by                          whether a pair is left to be selected
 --     better-first, better-new, better-old         which of two is the better
 --     prior-refl, prior-trans                      going before is an order

@@ -1,5 +1,5 @@
 -- Sets that stand for one family of pairs.
---     beyond              there is a number above every number that a list's pairs have in one place
+--     Beyond f C, beyond  a number above every number that f gives on the pairs of C; there is one
 --     covers-dominate     two lists that cover one family dominate each other: each pair of one is dominated by a pair of the other
 --     mutual-same         two pruned sets that dominate each other are the same list
 --     closes-unique       two sets that close one family are the same list: "the fully pruned set" is one

@@ -31,7 +31,9 @@ numeral-number a false e = refl
 numeral-number a true e = absurd (true≢false e)
 
 -- of a number that is read back from its bits, handed on and read back again
-pub numeral-back : (a z : ℤ) (f : Bool) → mag a < 2 ^ hbits w64 → mag z < 2 ^ hbits w64 → z ≡ numeral (limit (toZ w64 (ofZ w64 a)) f) → toZ w64 (ofZ w64 z) ≡ numeral (limit a f)
+pub numeral-back :
+    (a z : ℤ) (f : Bool) → mag a < 2 ^ hbits w64 → mag z < 2 ^ hbits w64 → z ≡ numeral (limit (toZ w64 (ofZ w64 a)) f)
+    → toZ w64 (ofZ w64 z) ≡ numeral (limit a f)
 numeral-back a z f h k e =
     let read : toZ w64 (ofZ w64 a) ≡ a = toZ-ofZ (record { sfits = h }) in
     toZ-ofZ (record { sfits = k }) ∙ (rw read at e)
@@ -49,8 +51,8 @@ pair-back p = pair-same (limit-back (p .l)) (limit-back (p .w))
 
 pub held-pair :
     (a b x y : ℤ) (f g : Bool) → x ≡ numeral (limit a f) → y ≡ numeral (limit b g)
-    → _≡_ {A = HeldPair} (record { l = x; «l_unlimited» = f; w = y; «w_unlimited» = g }) (heldPair (pair (limit a f) (limit b g)))
-held-pair a b x y f g e h = λ i. record { l = e i; «l_unlimited» = sym (flag-back a f) i; w = h i; «w_unlimited» = sym (flag-back b g) i }
+    → _≡_ {A = HeldPair} (record { l = x; w = y; «l_unlimited» = f; «w_unlimited» = g }) (heldPair (pair (limit a f) (limit b g)))
+held-pair a b x y f g e h = λ i. record { l = e i; w = h i; «l_unlimited» = sym (flag-back a f) i; «w_unlimited» = sym (flag-back b g) i }
 
 map-back : (T : List Pair) → map pairOf (map heldPair T) ≡ T
 map-back [] = refl

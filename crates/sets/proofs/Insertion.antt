@@ -88,7 +88,13 @@ further {p} {q} {T} i ahead rest b =
 
 insert : {T : List Pair} (p : Pair) → Pruned T → Inserted p T
 insert p none =
-    record { S = p ∷ []; ordered = first tt none; from = λ r m. inl (List·Memᴰ·eq-of-singleton m); old = λ r m. absurd (List·Memᴰ·not-nil m); new = itself p (here refl) }
+    record {
+      S = p ∷ [];
+      ordered = first tt none;
+      from = λ r m. inl (List·Memᴰ·eq-of-singleton m);
+      old = λ r m. absurd (List·Memᴰ·not-nil m);
+      new = itself p (here refl);
+    }
 insert p (first {p = q} {T = T} ahead rest) =
     by (insert p rest) (compared (p .l) (q .l)) (compared (q .l) (p .l)) (compared (p .w) (q .w)) (compared (q .w) (p .w))
   where

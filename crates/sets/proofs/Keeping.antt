@@ -5,6 +5,7 @@
 --     keeping-more              the pair that is selected next is kept
 --     keeping-end               where nothing is left, what is kept is the answer
 --     keeping-over              where a pair is left and there is no room, the answer is that there are more
+--     promised                  the room is what the code computed it to be
 -- That a candidate is left, by the test of its l, is that it comes after all kept pairs. Assumes nothing.
 use mathlib.Core.Path.{_≡_, refl, sym, ap, _∙_, subst}
 use mathlib.Core.Bool.{Bool, true, false, true≢false}
@@ -59,7 +60,9 @@ after-left (last-is former q e h is) p after =
     record { longer = λ _. subst (λ (x : Pair). x .l <ᴸ p .l) (sym (ap pairOf is ∙ pair-back q)) rises }
 
 -- the array with one more pair
-fill-more : (u : HeldPair) (K : List Pair) (q : Pair) (m : ℕ) → set (map heldPair K ++ replicate (suc m) u) (length K) (heldPair q) ≡ map heldPair (K ++ (q ∷ [])) ++ replicate m u
+fill-more :
+    (u : HeldPair) (K : List Pair) (q : Pair) (m : ℕ)
+    → set (map heldPair K ++ replicate (suc m) u) (length K) (heldPair q) ≡ map heldPair (K ++ (q ∷ [])) ++ replicate m u
 fill-more u [] q m = refl
 fill-more u (p ∷ K) q m = ap (λ (xs : List HeldPair). heldPair p ∷ xs) (fill-more u K q m)
 
@@ -71,7 +74,8 @@ places-more K q pairs count e l listed counted is =
     let long : 64 - length (K ++ (q ∷ [])) ≡ 64 - suc (length K) = omega (arith, length-append K (q ∷ [])) in
     rw (listed, counted, is, rest, long) (fill-more (heldPair unit) K q (64 - suc (length K)))
 
-module _ {C : List Pair} {at : ℕ → Pair} {n : ℕ} (lists : Lists C at n) {room : ℕ} {pairs : List HeldPair} {count : ℕ} {some : Bool} {last : HeldPair} (k : Keeping C room pairs count some last) where
+module _ {C : List Pair} {at : ℕ → Pair} {n : ℕ} (lists : Lists C at n)
+    {room : ℕ} {pairs : List HeldPair} {count : ℕ} {some : Bool} {last : HeldPair} (k : Keeping C room pairs count some last) where
   -- what a scan finds is what is selected next
   chosen-next : (i : ℕ) → Best at n some (pairOf last) i → Next C (k .kept) (at i)
   chosen-next i best =
@@ -87,10 +91,14 @@ module _ {C : List Pair} {at : ℕ → Pair} {n : ℕ} (lists : Lists C at n) {r
           let (j, l, e) = lists .only p m in
           subst (λ (x : Pair). Prior (at i) x) (sym e) (best .best j l (after-left (k .latest) (at j) (subst (After (k .kept)) e after)))
 
-  chosen-at : (found : Found) (e : HeldPair) → found ≡ At e → Chosen at n some (pairOf last) found → (i : ℕ) × (e ≡ heldPair (at i)) × Best at n some (pairOf last) i
+  chosen-at :
+      (found : Found) (e : HeldPair) → found ≡ At e → Chosen at n some (pairOf last) found
+      → (i : ℕ) × (e ≡ heldPair (at i)) × Best at n some (pairOf last) i
   chosen-at found e same h = rw same at h
 
-  pub keeping-more : (found : Found) (e : HeldPair) → Chosen at n some (pairOf last) found → found ≡ At e → count < room → room ≤ 64 → Keeping C room (set pairs count e) (count + 1) true e
+  pub keeping-more :
+      (found : Found) (e : HeldPair) → Chosen at n some (pairOf last) found → found ≡ At e → count < room → room ≤ 64
+      → Keeping C room (set pairs count e) (count + 1) true e
   keeping-more found e h same l most =
       let (i, is, best) = chosen-at found e same h in
       record {
@@ -103,7 +111,9 @@ module _ {C : List Pair} {at : ℕ → Pair} {n : ℕ} (lists : Lists C at n) {r
       }
 
   -- nothing is left
-  pub keeping-end : (found : Found) → Chosen at n some (pairOf last) found → found ≡ Nothing → PrunedTo C room (record { more = false; set = record { pairs = pairs; count = count } })
+  pub keeping-end :
+      (found : Found) → Chosen at n some (pairOf last) found → found ≡ Nothing
+      → PrunedTo C room (record { more = false; set = record { pairs = pairs; count = count } })
   keeping-end found h same =
       let none : (j : ℕ) → j < n → Left some (pairOf last) (at j) → ⊥ = rw same at h in
       record {

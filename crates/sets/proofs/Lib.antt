@@ -14,4 +14,5 @@ pub mod Choosing
 pub mod Scanning
 pub mod Keeping
 pub mod Reaching
+pub mod Composing
 pub mod Promises

@@ -4,6 +4,7 @@
 --     <ᴸ-not-≤ᴸ                          nothing is below what is at most it
 --     compared, Compared                 of two limits one is at most the other, or above it
 --     number-≤, number-<                 of two numbers the orders are those of the whole numbers
+--     number-same, not-number            two numbers that are one limit are one number, and unlimited is none
 --     next                               what is above a number is at least the next number
 --     +ᴸ-more, +ᴸ-assoc, zero-+ᴸ, +ᴸ-zero, +ᴸ-unlimited  sums grow with their parts; how they are grouped does not matter; 0 and unlimited in a sum
 --     sum-under                          what stands under x + a stands, less x, under a
@@ -11,7 +12,7 @@
 --     lesser-number, number-lesser       with a number on either side it is a number
 --     lesser-more, lesser-assoc, lesser-+ᴸ, lesser-unlimited   it grows with its parts; grouping; a sum with it; unlimited in it
 -- Facts on the lesser go through the first three, never by cases on its numbers. Assumes nothing.
-use mathlib.Core.Path.{_≡_, refl, ap}
+use mathlib.Core.Path.{_≡_, refl, sym, ap}
 use mathlib.Core.Bool.{Bool, true, false, cond}
 use lib.IntN.{ℤ, pos, _+ℤ_, _-ℤ_}
 use lib.Signed.{_≤ℤ_, _<ℤ_, leZ}
@@ -71,6 +72,15 @@ number-≤ (numbers a b h) = h
 
 pub number-< : {a b : ℤ} → number a <ᴸ number b → a <ℤ b
 number-< (less a b h) = h
+
+pub not-number : {a : ℤ} → unlimited ≡ number a → ⊥
+not-number {a} e = <ᴸ-not-≤ᴸ (finite a) (≤ᴸ-of e)
+
+pub number-same : {a b : ℤ} → number a ≡ number b → a ≡ b
+number-same {a} {b} e =
+    let up : a ≤ℤ b = number-≤ (≤ᴸ-of e) in
+    let down : b ≤ℤ a = number-≤ (≤ᴸ-of (sym e)) in
+    omega linear
 
 -- what is above a number is at least the next number
 pub next : {a : ℤ} {b : Limit} → number a <ᴸ b → number (a +ℤ pos 1) ≤ᴸ b

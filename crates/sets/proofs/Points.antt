@@ -1,4 +1,5 @@
 -- One point decides: domination is read off the values, and a function has one pruned set.
+--     BelowAt T p x        some pair of T is at least as high as p at x
 --     dominated-below      what a set dominates is below it everywhere
 --     below-dominated      a proper pair that is everywhere below some pair of a set is dominated by one pair of it
 --     function-unique      two pruned sets of proper pairs with the same values are the same list
@@ -9,10 +10,10 @@ use mathlib.Core.Path.{_≡_, sym}
 use mathlib.Core.List.{List, [], _∷_, List·Memᴰ·not-nil}
 use lib.IntN.{ℤ, _+ℤ_, _-ℤ_}
 use Rattle.integers.proofs.Integer.{linear, sum, difference}
-use Rattle.sets.specs.Limit.{Limit, number, unlimited, _≤ᴸ_, numbers, finite, _+ᴸ_}
+use Rattle.sets.specs.Limit.{Limit, number, unlimited, _≤ᴸ_, numbers, _+ᴸ_}
 use Rattle.sets.specs.Pair.{Pair, pair, Proper, l-number, w-number, value}
 use Rattle.sets.specs.Set.{_∈_, SetValue, Pruned, Dominated}
-use Rattle.sets.proofs.Limits.{≤ᴸ-refl, ≤ᴸ-of, ≤ᴸ-trans, <ᴸ-not-≤ᴸ, sum-under, lesser-left, lesser-right, lesser-greatest}
+use Rattle.sets.proofs.Limits.{≤ᴸ-refl, ≤ᴸ-of, ≤ᴸ-trans, not-number, sum-under, lesser-left, lesser-right, lesser-greatest}
 use Rattle.sets.proofs.Pairs.{value-more}
 use Rattle.sets.proofs.Covers.{Beyond, beyond, mutual-same}
 use Rattle.sets.proofs.Values.{set-value-exists}
@@ -80,14 +81,16 @@ module _ (T : List Pair) where
   by-cases (number a) (number b) p h = both-numbers a b h
   by-cases (number a) unlimited p h = w-unlimited a h
   by-cases unlimited (number b) p h = l-unlimited b h
-  by-cases unlimited unlimited (l-number a e) h = absurd (<ᴸ-not-≤ᴸ (finite a) (≤ᴸ-of e))
-  by-cases unlimited unlimited (w-number b e) h = absurd (<ᴸ-not-≤ᴸ (finite b) (≤ᴸ-of e))
+  by-cases unlimited unlimited (l-number a e) h = absurd (not-number e)
+  by-cases unlimited unlimited (w-number b e) h = absurd (not-number e)
 
   pub below-dominated : (p : Pair) → Proper p → ((x : ℤ) → BelowAt T p x) → Dominated T p
   below-dominated p = by-cases (p .l) (p .w)
 
 -- every pair of S is everywhere below T, which has the values of S
-below : (S : List Pair) {T : List Pair} → ((q : Pair) → q ∈ S → Proper q) → ((x y : ℤ) → SetValue S x y → SetValue T x y) → (p : Pair) → p ∈ S → (x : ℤ) → BelowAt T p x
+below :
+    (S : List Pair) {T : List Pair} → ((q : Pair) → q ∈ S → Proper q) → ((x y : ℤ) → SetValue S x y → SetValue T x y)
+    → (p : Pair) → p ∈ S → (x : ℤ) → BelowAt T p x
 below [] proper same p m x = absurd (List·Memᴰ·not-nil m)
 below (r ∷ S) proper same p m x =
     let (y, v) = set-value-exists r S x proper in

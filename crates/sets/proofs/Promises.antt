@@ -1,5 +1,6 @@
 -- The promises allow one answer, and what an answer tells of a family that the candidates cover.
 --     held-unique          one set of pairs is held in one way
+--     composed-to-unique   two pairs composed have one answer
 --     valued-unique        a set's value at a number has one answer
 --     pruned-to-unique     so has a pruning
 --     pruning-closes       a pruning that does not say more holds the fully pruned set of every family that the candidates cover
@@ -17,7 +18,9 @@ use Rattle.sets.specs.Pair.{Pair}
 use Rattle.sets.specs.Set.{_∈_}
 use Rattle.sets.specs.Family.{Family, Covers, Closes}
 use Rattle.sets.specs.Held.{held, pairsOf}
-use Rattle.sets.specs.Promise.{Valued, PrunedTo}
+use Rattle.sets.specs.Promise.{ComposedTo, Valued, PrunedTo}
+use Rattle.sets.specs.declared.Composition.{Composition}
+use Rattle.sets.specs.declared.Composition.the-variants as composition
 use Rattle.sets.specs.declared.PrunedSet.{PrunedSet}
 use Rattle.sets.specs.declared.Pruning.{Pruning}
 use Rattle.sets.specs.declared.Reached.{Reached}
@@ -28,6 +31,12 @@ use Rattle.sets.proofs.Holding.{pairs-back}
 
 pub held-unique : (T : List Pair) {r s : PrunedSet} → r ≡ held T → s ≡ held T → r ≡ s
 held-unique T h k = h ∙ sym k
+
+pub composed-to-unique : (p q : Pair) (r s : Composition) → ComposedTo p q r → ComposedTo p q s → r ≡ s
+composed-to-unique p q (composition.Made e) (composition.Made f) (h, _) (k, _) = ap composition.Made (h ∙ sym k)
+composed-to-unique p q (composition.Made e) composition.Outside (_, fine) far = absurd (far fine)
+composed-to-unique p q composition.Outside (composition.Made f) far (_, fine) = absurd (far fine)
+composed-to-unique p q composition.Outside composition.Outside _ _ = refl
 
 -- ---- the value of a set
 

@@ -9,7 +9,21 @@
 use mathlib.Core.Path.{_≡_, refl, sym, ap, _∙_, subst}
 use mathlib.Core.Bool.{Bool, true, false, cond, true≢false}
 use mathlib.Core.Logic.{_⊎_, inl, inr}
-use mathlib.Core.List.{List, [], _∷_, _++_, map, map-append, List·Memᴰ, List·Memᴰ·head as here, List·Memᴰ·tail as there, List·Memᴰ·not-nil, List·Memᴰ·eq-of-singleton, List·Memᴰ·append-cases, Memᴰ·append-left}
+use mathlib.Core.List.{
+  List,
+  [],
+  _∷_,
+  _++_,
+  map,
+  map-append,
+  List·Memᴰ,
+  List·Memᴰ·head as here,
+  List·Memᴰ·tail as there,
+  List·Memᴰ·not-nil,
+  List·Memᴰ·eq-of-singleton,
+  List·Memᴰ·append-cases,
+  Memᴰ·append-left,
+}
 use Prim.Native.Nat.{ℕ, _+_, _≤_, _<_, min}
 use native.Mathlib.Numerals.{add-one}
 use native.Mathlib.Decide.{decLe}
@@ -24,7 +38,7 @@ use mir.Facts.{toZ-ofZ}
 use Rattle.integers.specs.Within.{Within}
 use Rattle.integers.proofs.Integer.{linear}
 use Rattle.integers.proofs.Word.{within-fits, read-back, within-sum}
-use Rattle.sets.specs.Limit.{number, unlimited, numbers, finite, lesser}
+use Rattle.sets.specs.Limit.{number, numbers, lesser}
 use Rattle.sets.specs.Pair.{Pair, pair}
 use Rattle.sets.specs.Set.{_∈_}
 use Rattle.sets.specs.Held.{limit, pairOf}
@@ -36,7 +50,7 @@ use Rattle.sets.specs.declared.Reached.the-variants.{At, Nothing, Outsid
 use Rattle.sets.proofs.Candidates.{member-at}
 use Rattle.sets.proofs.Sets.{append-joins}
 use Rattle.sets.proofs.Values.{one-value, joined-value}
-use Rattle.sets.proofs.Limits.{≤ᴸ-refl, ≤ᴸ-of, ≤ᴸ-antisym, <ᴸ-not-≤ᴸ, number-≤, lesser-left, lesser-right, lesser-greatest}
+use Rattle.sets.proofs.Limits.{not-number, number-same, ≤ᴸ-refl, ≤ᴸ-antisym, lesser-left, lesser-right, lesser-greatest}
 
 -- ---- the bound
 
@@ -55,15 +69,6 @@ module _ (x l : ℤ) (x-fits : SFits w64 x) (l-fits : SFits w64 l) (x-near : Wit
   sum-back = rw (toZ-ofZ x-fits, toZ-ofZ l-fits) (read-back w64 8000000000000000000 (x +ℤ l) (omega arith) (within-sum x-near l-near))
 
 -- ---- one pair
-
-not-number : {a : ℤ} → unlimited ≡ number a → ⊥
-not-number {a} e = <ᴸ-not-≤ᴸ (finite a) (≤ᴸ-of e)
-
-number-same : {a b : ℤ} → number a ≡ number b → a ≡ b
-number-same {a} {b} e =
-    let up : a ≤ℤ b = number-≤ (≤ᴸ-of e) in
-    let down : b ≤ℤ a = number-≤ (≤ᴸ-of (sym e)) in
-    omega linear
 
 module _ (l w x : ℤ) (f g : Bool) where
   pub both-unlimited : f ≡ true → g ≡ true → PairValued (pair (limit l f) (limit w g)) x Outside

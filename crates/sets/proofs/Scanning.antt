@@ -73,7 +73,8 @@ module _ (at : ℕ → Pair) (some : Bool) (last : Pair) where
           chosen-at (i + 1) k q r e was (best-more i k (omega (arith, b .within)) (b .left) (b .best) old)
 
   -- a turn of the scan: the test says whether candidate i, held as p, is left
-  module _ (i : ℕ) (found : Found) (p : HeldPair) (b : Bool) (before : Chosen at i some last found) (is : p ≡ heldPair (at i)) (test : LeftChecked some last (pairOf p) b) where
+  module _ (i : ℕ) (found : Found) (p : HeldPair) (b : Bool)
+      (before : Chosen at i some last found) (is : p ≡ heldPair (at i)) (test : LeftChecked some last (pairOf p) b) where
     pub turn-gone : b ≡ false → (r : Found) → r ≡ found → Chosen at (i + 1) some last r
     turn-gone e r same = rw same (scan-gone i found before (left-back p is test .gone e))
 

@@ -1,6 +1,7 @@
 -- The value of a set at a number.
 --     set-value-unique, family-value-unique     a set, and a family, has one value at most at a number
 --     set-value-exists                          a set of proper pairs that is not empty has one
+--     one-value                                 the value of a single pair is that of the set of it alone
 --     joined-value                              the value of two sets joined is the greater of their values
 --     composed-value                            the value of A ∘ B at x is that of B at the value of A at x
 --     cover-value                               the value of a list that covers a family is the greatest value of the family's pairs, and one reaches it

@@ -2,6 +2,7 @@
 -- set, the limit is unlimited and the number is 0.
 --     limit a f                 == the limit that number a and flag f stand for
 --     numeral x, flag x         == the number and the flag by which limit x is held
+--     limitOf e, heldLimit x    == the limit that e stands for; limit x as it is held
 --     pairOf e                  == the pair that e stands for
 --     heldPair p                == pair p as it is held
 --     pairsOf s                 == the pairs that the set s stands for: those in its first places, as many as it counts
@@ -17,6 +18,7 @@ use lib.IntN.{ℤ, pos}
 use lib.ListN.{length, replicate, take, getD}
 use Rattle.sets.specs.Limit.{Limit, number, unlimited}
 use Rattle.sets.specs.Pair.{Pair, pair, unit}
+use Rattle.sets.specs.declared.sums.Limit.{Limit as HeldLimit}
 use Rattle.sets.specs.declared.Pair.{Pair as HeldPair}
 use Rattle.sets.specs.declared.PrunedSet.{PrunedSet}
 
@@ -32,11 +34,17 @@ abbrev pub flag : Limit → Bool
 flag (number a) = false
 flag unlimited = true
 
+abbrev pub limitOf : HeldLimit → Limit
+limitOf e = limit (e .number) (e .unlimited)
+
+abbrev pub heldLimit : Limit → HeldLimit
+heldLimit x = record { number = numeral x; unlimited = flag x }
+
 abbrev pub pairOf : HeldPair → Pair
 pairOf e = pair (limit (e .l) (e .«l_unlimited»)) (limit (e .w) (e .«w_unlimited»))
 
 abbrev pub heldPair : Pair → HeldPair
-heldPair p = record { l = numeral (p .l); «l_unlimited» = flag (p .l); w = numeral (p .w); «w_unlimited» = flag (p .w) }
+heldPair p = record { l = numeral (p .l); w = numeral (p .w); «l_unlimited» = flag (p .l); «w_unlimited» = flag (p .w) }
 
 abbrev pub pairsOf : PrunedSet → List Pair
 pairsOf s = map pairOf (take (s .count) (s .pairs))

@@ -1,5 +1,7 @@
 -- What the functions within promise: the tests and choices of a selection, and the value of one pair.
 --     BelowChecked a b r        == r is true and limit a is below b, or r is false and it is not
+--     FarChecked x r            == r is true and limit x is a number beyond the bound on sums, or r is false and it is near
+--     LesserIs a b r            == r is that of a and b which stands for the lesser limit
 --     Prior p q                 == p may be selected before q: its w is the greater, or they have one w and its l is at least as great
 --     PriorChecked p q r        == r is true and p may be selected before q, or r is false and q before p
 --     Left some last p          == p is left to be selected: its l is above that of the pair kept last, if there is some
@@ -20,8 +22,9 @@ use lib.Signed.{leZ}
 use Rattle.integers.specs.Within.{Within}
 use Rattle.sets.specs.Limit.{Limit, number, _≤ᴸ_, _<ᴸ_}
 use Rattle.sets.specs.Pair.{Pair, value}
-use Rattle.sets.specs.Held.{pairOf, heldPair}
-use Rattle.sets.specs.Promise.{Summable}
+use Rattle.sets.specs.Held.{limitOf, pairOf, heldPair}
+use Rattle.sets.specs.Promise.{Near, Summable}
+use Rattle.sets.specs.declared.sums.Limit.{Limit as HeldLimit}
 use Rattle.sets.specs.declared.Pair.{Pair as HeldPair}
 use Rattle.sets.specs.declared.Reached.{Reached}
 use Rattle.sets.specs.declared.Reached.the-variants as reached
@@ -31,6 +34,13 @@ use Rattle.sets.specs.declared.scan.Found.the-variants.{At, Nothing}
 pub record BelowChecked (a b : Limit) (r : Bool) : Type 0 where
   pub below : r ≡ true → a <ᴸ b
   pub not-below : r ≡ false → b ≤ᴸ a
+
+pub record FarChecked (x : Limit) (r : Bool) : Type 0 where
+  pub far : r ≡ true → Near x → ⊥
+  pub close : r ≡ false → Near x
+
+abbrev pub LesserIs : HeldLimit → HeldLimit → HeldLimit → Type 0
+LesserIs a b r = ((r ≡ b) × (limitOf b ≤ᴸ limitOf a)) ⊎ ((r ≡ a) × (limitOf a ≤ᴸ limitOf b))
 
 pub record Prior (p q : Pair) : Type 0 where
   pub higher : q .w ≤ᴸ p .w

@@ -1,27 +1,33 @@
 // Pruned sets of pairs: a function of a number, carried as the pairs of all paths that no other pair makes needless.
 //     PrunedSet::unit, PrunedSet::zero   pass-everything and pass-nothing
+//     Pair::then                         two pairs composed
 //     PrunedSet::value_at                the value of a set at a number
 //     prune                              the pruned set of a list of candidates, or that it has too many pairs
 // Nothing is asked of the caller. The definitions are in specs/, their laws in proofs/.
 mod order;
 mod reach;
 mod scan;
+mod sums;
 
 ghost use mathlib.Core.Path.{_≡_};
 ghost use Prim.Native.Nat.{min};
 ghost use Rattle.sets.specs.Set.{passEverything, passNothing};
-ghost use Rattle.sets.specs.Held.{held, pairsOf, candidates};
-ghost use Rattle.sets.specs.Promise.{Valued, PrunedTo};
+ghost use Rattle.sets.specs.Held.{held, pairOf, pairsOf, candidates};
+ghost use Rattle.sets.specs.Promise.{ComposedTo, Valued, PrunedTo};
 use crate::reach::greater;
 use crate::reach::pair_value;
 use crate::scan::Found;
 use crate::scan::next_pair;
+use crate::sums::far;
+use crate::sums::lesser_limit;
+use crate::sums::plain;
+use crate::sums::sum;
 
 // A pair (l, w). Each of the two is a number, or unlimited where its flag is set; the number beside a flag that is set is 0.
 pub struct Pair {
     pub l: i64,
-    pub l_unlimited: bool,
     pub w: i64,
+    pub l_unlimited: bool,
     pub w_unlimited: bool,
 }
 
@@ -47,14 +53,49 @@ pub enum Reached {
     Outside,
 }
 
+// Two pairs composed.
+pub enum Composition {
+    // This pair.
+    Made(Pair),
+    // A number that was to be added is beyond 4,000,000,000,000,000,000 either side of zero.
+    Outside,
+}
+
 impl Pair {
     // The unit, which passes everything.
     pub const UNIT: Pair = Pair {
         l: 0,
-        l_unlimited: false,
         w: 0,
+        l_unlimited: false,
         w_unlimited: true,
     };
+
+    // This pair first and then q.
+    pub fn then(self, q: Pair) -> Composition
+        ensures { λ r. ⌜ ComposedTo (pairOf self) (pairOf q) r ⌝ }
+    {
+        let l = plain(self.l, self.l_unlimited);
+        let w = plain(self.w, self.w_unlimited);
+        let step = plain(q.l, q.l_unlimited);
+        let cap = plain(q.w, q.w_unlimited);
+        if far(l) {
+            return Composition::Outside;
+        }
+        if far(w) {
+            return Composition::Outside;
+        }
+        if far(step) {
+            return Composition::Outside;
+        }
+        let long = sum(l, step);
+        let high = lesser_limit(sum(w, step), cap);
+        Composition::Made(Pair {
+            l: long.number,
+            w: high.number,
+            l_unlimited: long.unlimited,
+            w_unlimited: high.unlimited,
+        })
+    }
 }
 
 impl PrunedSet {

@@ -4,7 +4,7 @@ ghost use Rattle.sets.specs.Parts.{BelowChecked, PriorChecked, LeftCheck
 use crate::Pair;
 
 // Whether limit a is below limit b.
-fn below(a: i64, a_unlimited: bool, b: i64, b_unlimited: bool) -> bool
+pub(crate) fn below(a: i64, a_unlimited: bool, b: i64, b_unlimited: bool) -> bool
     ensures { λ r. ⌜ BelowChecked (limit a «a_unlimited») (limit b «b_unlimited») r ⌝ }
 {
     if a_unlimited {

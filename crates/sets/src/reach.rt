@@ -7,7 +7,7 @@ use crate::Reached;
 const BOUND: i64 = 4000000000000000000;
 
 // Whether a number is too great to be added to, or too small.
-fn beyond(a: i64) -> bool
+pub(crate) fn beyond(a: i64) -> bool
     ensures { λ r. ⌜ BoundChecked a r ⌝ }
 {
     if a < -BOUND {

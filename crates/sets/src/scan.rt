@@ -15,7 +15,7 @@ pub(crate) enum Found {
 }
 
 // The number of a limit, 0 where it is unlimited.
-fn numeral_of(a: i64, unlimited: bool) -> i64
+pub(crate) fn numeral_of(a: i64, unlimited: bool) -> i64
     ensures { λ r. ⌜ r ≡ numeral (limit a unlimited) ⌝ }
 {
     if unlimited { 0 } else { a }
@@ -30,8 +30,8 @@ fn candidate(ls: &[i64], l_unlimited: &[bool], ws: &[i64], w_unlimited: &[bool],
     let w = numeral_of(ws[i], w_unlimited[i]);
     Pair {
         l,
-        l_unlimited: l_unlimited[i],
         w,
+        l_unlimited: l_unlimited[i],
         w_unlimited: w_unlimited[i],
     }
 }

@@ -31,7 +31,7 @@ use Rattle.separation.specs.declared.Answer.{Answer}
 use Rattle.separation.specs.Promise.{at, Answered, Written, ShortLists}
 use Rattle.table.specs.declared.TableAnswer.{TableAnswer}
 use Rattle.table.specs.Table.{entry, RowFilled, RowsFilled, OthersKept, TooLarge, many-events, many-rules, short-table, tableChecks, TableVerdict, TableAnswered}
-use Rattle.table.specs.Rows.{RowKept, RowCopied, RowAnswered}
+use Rattle.table.specs.Parts.Rows.{RowKept, RowCopied, RowAnswered}
 
 -- ---- one row copied
 

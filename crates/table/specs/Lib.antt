@@ -1,3 +1,3 @@
--- What the contracts of `table` cite. A reader of its promise needs Table.antt; Rows.antt serves the functions within.
+-- The promise is in Table.antt. Parts holds what the functions within say to one another.
 pub mod Table
-pub mod Rows
+pub mod Parts

@@ -11,7 +11,7 @@ ghost use lib.ListN.{length, getD};
 ghost use Rattle.integers.specs.Within.{Within};
 ghost use Rattle.graphs.specs.Graph.{graphOf};
 ghost use Rattle.table.specs.Table.{TableAnswered};
-ghost use Rattle.table.specs.Rows.{RowCopied, RowAnswered};
+ghost use Rattle.table.specs.Parts.Rows.{RowCopied, RowAnswered};
 use separation::Answer;
 
 // The answer to a table. `refusal` is 0, or the number of document 01's table, with its place.

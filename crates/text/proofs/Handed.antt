@@ -31,7 +31,7 @@ use Rattle.text.specs.Reading.{
   leastsOf,
   mostsOf,
   graphOfRules,
-  ShortLists,
+  ShortForRules,
   Beyond,
   many-events,
   many-rows,
@@ -110,7 +110,7 @@ held-graph {rs} {ss₀} {ts₀} {ds₀} {Ds₀} {ss} {ts} {ds} {Ds} {n} {m} h e 
 pub few-taken : {m b : ℕ} (xs : List ℕ) → m ≤ b → length (take m xs) ≤ b
 few-taken {m} {b} xs l = omega (arith, length-take m xs)
 
-module _ {bs : List ℕ} {a : Reading} {ss₀ ts₀ : List ℕ} {ds₀ Ds₀ : List ℤ} {ss ts : List ℕ} {ds Ds : List ℤ} (w : RulesWritten bs a ss₀ ts₀ ds₀ Ds₀ ss ts ds Ds) (r : ReadOff bs (ShortLists ss₀ ts₀ ds₀ Ds₀) a) where
+module _ {bs : List ℕ} {a : Reading} {ss₀ ts₀ : List ℕ} {ds₀ Ds₀ : List ℤ} {ss ts : List ℕ} {ds Ds : List ℤ} (w : RulesWritten bs a ss₀ ts₀ ds₀ Ds₀ ss ts ds Ds) (r : ReadOff bs (ShortForRules ss₀ ts₀ ds₀ Ds₀) a) where
   pub handed : a .refusal ≡ 0 → Handed bs a ss ts ds Ds
   handed e =
       let (rs, text, n, m) = r .found e in
@@ -125,7 +125,7 @@ module _ {bs : List ℕ} {a : Reading} {ss₀ ts₀ : List ℕ} {ds₀ Ds₀ : L
       }
 
   module _ (sources-long : length ss₀ ≡ 1024) (targets-long : length ts₀ ≡ 1024) (leasts-long : length ds₀ ≡ 1024) (mosts-long : length Ds₀ ≡ 1024) where
-    enough : (rs : List Rule) → ShortLists ss₀ ts₀ ds₀ Ds₀ rs → 1024 < length rs
+    enough : (rs : List Rule) → ShortForRules ss₀ ts₀ ds₀ Ds₀ rs → 1024 < length rs
     enough rs (inl l) = omega arith
     enough rs (inr (inl l)) = omega arith
     enough rs (inr (inr (inl l))) = omega arith

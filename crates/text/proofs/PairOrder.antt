@@ -16,8 +16,8 @@ use Rattle.executions.proofs.Sizes.{exact-size}
 use Rattle.numerals.specs.Numbers.{Integer}
 use Rattle.text.specs.Output.{Pair, PairLine, Lines, none, more, RefusedLine}
 use Rattle.table.specs.Table.{entry, RowsFilled}
-use Rattle.text.specs.TableLines as inner
-use Rattle.text.specs.TableLines.{TableLine, TableLines, SmallEntries}
+use Rattle.text.specs.Parts.TableLines as inner
+use Rattle.text.specs.Parts.TableLines.{TableLine, TableLines, SmallEntries}
 use Rattle.numerals.proofs.Decimal.{natural-unique, integer-unique}
 
 -- ---- from the table to the graph

@@ -19,7 +19,7 @@ use Rattle.verdicts.specs.Verdict.{given, check, AtZero}
 use Rattle.verdicts.proofs.Verdicts.{none-accepted}
 use Rattle.graphs.proofs.Refusals.{graph-place}
 use Rattle.text.specs.declared.Reading.{Reading}
-use Rattle.text.specs.Reading.{events, graphOfRules, ShortLists, ReadOff, RulesWritten}
+use Rattle.text.specs.Reading.{events, graphOfRules, ShortForRules, ReadOff, RulesWritten}
 use Rattle.text.specs.Output.{pairs, ending, Lines, pairHeader, RefusedLine, PairsVerdict, Output, table, refused, outputPlaces, ShortOutput, PairsWritten}
 use Rattle.numerals.specs.Appending.{Appended}
 use Rattle.table.specs.declared.TableAnswer.{TableAnswer}
@@ -68,7 +68,7 @@ refusal-put {j = j} {p = p} n v (line, is-line, a) = (line, refused j p (not-zer
 
 -- ---- after a reading
 
-module _ {bs : List ℕ} {a : Reading} {ss₀ ts₀ : List ℕ} {ds₀ Ds₀ : List ℤ} {ss ts : List ℕ} {ds Ds : List ℤ} (w : RulesWritten bs a ss₀ ts₀ ds₀ Ds₀ ss ts ds Ds) (r : ReadOff bs (ShortLists ss₀ ts₀ ds₀ Ds₀) a) where
+module _ {bs : List ℕ} {a : Reading} {ss₀ ts₀ : List ℕ} {ds₀ Ds₀ : List ℤ} {ss ts : List ℕ} {ds Ds : List ℤ} (w : RulesWritten bs a ss₀ ts₀ ds₀ Ds₀ ss ts ds Ds) (r : ReadOff bs (ShortForRules ss₀ ts₀ ds₀ Ds₀) a) where
   pub read-refused-put : {out₀ out : List ℕ} {k : ℕ} → length ss₀ ≡ 1024 → length ts₀ ≡ 1024 → length ds₀ ≡ 1024 → length Ds₀ ≡ 1024 → (a .refusal ≡ 0 → ⊥) → LineWritten (a .refusal) (a .place) out₀ out k → OutputPut bs out₀ out k
   read-refused-put l₁ l₂ l₃ l₄ n line = refusal-put n (read-refused w r l₁ l₂ l₃ l₄ n) line
 

@@ -18,8 +18,8 @@ use lib.ListN.{length, drop, drop-of-length-le}
 use lib.Seq.{drop-cons}
 use Rattle.numerals.specs.Numbers.{Number, Field}
 use Rattle.numerals.specs.Fields.{Stops, ByteAt, NumberAt, FieldAt}
-use Rattle.text.specs.Scanning.{Ends}
-use Rattle.text.specs.Parts.{EndAt, PartAt, Comma, Closing}
+use Rattle.text.specs.Parts.Scanning.{Ends}
+use Rattle.text.specs.Parts.Fields.{EndAt, PartAt, Comma, Closing}
 use Rattle.numerals.specs.declared.EventField.{EventField}
 use Rattle.numerals.specs.declared.DelayField.{DelayField}
 use Rattle.numerals.proofs.Cuts.{OneCut}

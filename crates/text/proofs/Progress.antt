@@ -1,6 +1,6 @@
 -- What a loop over the rows knows of the part of the text that it has read.
 --     one-more             one element more, and the length
---     Progress bs at rs    the header and the rows of the rules rs stand before place `at`, and a line may end there
+--     RowsRead bs at rs    the header and the rows of the rules rs stand before place `at`, and a line may end there
 --     progress-none        after the header
 --     ending               where a row is to follow, an ending stands
 --     progress-more        after one row more
@@ -9,7 +9,7 @@
 --     header-broken        where no header stands, it breaks at row 1
 --     events-more          one rule more, and the number of events
 --     header-room, header-found, header-missing     what `header_stands` gives
---     Counted, counted-none, counted-small, row-longer, counted-more, counted-broken    the same with the counts that `scan` keeps
+--     RowsCounted, counted-none, counted-small, row-longer, counted-more, counted-broken    the same with the counts that `scan` keeps
 --     scanned-right, scanned-broken    what `scan` gives
 -- Assumes nothing.
 use mathlib.Core.Path.{_≡_, refl, sym, ap, subst, _∙_}
@@ -22,8 +22,8 @@ use lib.ListN.{length, drop, length-append, length-drop}
 use lib.Seq.{drop-drop, drop-at}
 use Rattle.text.specs.Grammar.{Rule, Row, header, Rows, none, Text, Ended, start, ended, Broken}
 use Rattle.text.specs.Reading.{events}
-use Rattle.text.specs.Scanning.{Ends, ruleOf, RowAt, Scanned}
-use Rattle.text.specs.Scans.{HeaderFound}
+use Rattle.text.specs.Parts.Scanning.{Ends, ruleOf, RowAt, Scanned}
+use Rattle.text.specs.Parts.Header.{HeaderFound}
 use Rattle.text.specs.declared.Reading.{Reading}
 use Rattle.text.specs.declared.rows.RuleRow.{RuleRow}
 use Rattle.text.proofs.Texts.{no-bytes, After, nothing, rows, text-made, rows-made}
@@ -31,14 +31,14 @@ use Rattle.text.proofs.Texts.{no-bytes, After, nothing, rows, text-made
 pub one-more : {A : Type 0} (l : List A) (x : A) → length (l ++ (x ∷ [])) ≡ suc (length l)
 one-more l x = length-append l (x ∷ []) ∙ omega arith
 
-pub record Progress (bs : List ℕ) (at : ℕ) (rs : List Rule) : Type 0 where
+pub record RowsRead (bs : List ℕ) (at : ℕ) (rs : List Rule) : Type 0 where
   pub within : at ≤ length bs
   pub ends : Ends (drop at bs)
   pub whole : (others : List Rule) → After (drop at bs) others → Text bs (rs ++ others)
   pub ended-rows : (rest : List ℕ) → drop at bs ≡ 13 ∷ (10 ∷ rest) → Ended bs (suc (length rs)) rest
   pub fewer : length rs ≤ at
 
-pub progress-none : {bs : List ℕ} → 24 ≤ length bs → bs ≡ header ++ drop 24 bs → Ends (drop 24 bs) → Progress bs 24 []
+pub progress-none : {bs : List ℕ} → 24 ≤ length bs → bs ≡ header ++ drop 24 bs → Ends (drop 24 bs) → RowsRead bs 24 []
 progress-none {bs} room e ends =
     record {
       within = room;
@@ -48,7 +48,7 @@ progress-none {bs} room e ends =
       fewer = omega arith;
     }
 
-module _ {bs : List ℕ} {at : ℕ} {rs : List Rule} (p : Progress bs at rs) where
+module _ {bs : List ℕ} {at : ℕ} {rs : List Rule} (p : RowsRead bs at rs) where
   long : length (drop at bs) + at ≡ length bs
   long = omega (arith, length-drop at bs, p .within)
 
@@ -72,7 +72,7 @@ module _ {bs : List ℕ} {at : ℕ} {rs : List Rule} (p : Progress bs at rs) whe
 
   pub progress-more : (room : at + 2 < length bs) {line : List ℕ} {r : Rule} {next : ℕ} →
       next ≤ length bs → Row line r → drop (at + 2) bs ≡ line ++ drop next bs → Ends (drop next bs) → at < next →
-      Progress bs next (rs ++ (r ∷ []))
+      RowsRead bs next (rs ++ (r ∷ []))
   progress-more room {line} {r} {next} within row e ends later =
       record {
         within = within;
@@ -148,23 +148,23 @@ header-missing lacking =
 
 -- ---- with the counts
 
-pub record Counted (bs : List ℕ) (at n m : ℕ) : Type 0 where
+pub record RowsCounted (bs : List ℕ) (at n m : ℕ) : Type 0 where
   pub rs : List Rule
-  pub progress : Progress bs at rs
+  pub progress : RowsRead bs at rs
   pub rule-count : n ≡ length rs
   pub event-count : m ≡ events rs
 
-pub counted-none : {bs : List ℕ} {found : Bool} → HeaderFound bs found → found ≡ true → Counted bs 24 0 1
+pub counted-none : {bs : List ℕ} {found : Bool} → HeaderFound bs found → found ≡ true → RowsCounted bs 24 0 1
 counted-none h e = record { rs = []; progress = progress-none (h .room e) (h .stands e) (h .ends e); rule-count = refl; event-count = refl }
 
-pub counted-small : {bs : List ℕ} {at n m : ℕ} → Counted bs at n m → (at ≤ length bs) × (n ≤ length bs)
+pub counted-small : {bs : List ℕ} {at n m : ℕ} → RowsCounted bs at n m → (at ≤ length bs) × (n ≤ length bs)
 counted-small c = (c .progress .within, omega (arith, c .progress .within, c .progress .fewer, c .rule-count))
 
-module _ {bs : List ℕ} {at n m : ℕ} (c : Counted bs at n m) (room : at + 2 < length bs) {a : RuleRow} (found : RowAt bs (at + 2) a) where
+module _ {bs : List ℕ} {at n m : ℕ} (c : RowsCounted bs at n m) (room : at + 2 < length bs) {a : RuleRow} (found : RowAt bs (at + 2) a) where
   pub row-longer : a .right ≡ true → at < a .next
   row-longer e = omega (arith, found .right e .4)
 
-  pub counted-more : a .right ≡ true → {k : ℕ} → k ≡ max (suc (a .source)) (max (suc (a .target)) m) → Counted bs (a .next) (n + 1) k
+  pub counted-more : a .right ≡ true → {k : ℕ} → k ≡ max (suc (a .source)) (max (suc (a .target)) m) → RowsCounted bs (a .next) (n + 1) k
   counted-more e f =
       let (line, row, bytes, ends, later) = found .right e in
       record {
@@ -189,7 +189,7 @@ scanned-broken {bs} b (e, f, g, h) =
       wrong = λ _. (e, subst (Broken bs) (sym f) b, g, h);
     }
 
-pub scanned-right : {bs : List ℕ} {at n m : ℕ} → Counted bs at n m → length bs ≤ at + 2 → Scanned bs (record { refusal = 0; place = 0; events = m; rules = n })
+pub scanned-right : {bs : List ℕ} {at n m : ℕ} → RowsCounted bs at n m → length bs ≤ at + 2 → Scanned bs (record { refusal = 0; place = 0; events = m; rules = n })
 scanned-right c few =
     record {
       right = λ _. (c .rs, progress-done (c .progress) few, c .event-count, c .rule-count);

@@ -17,7 +17,7 @@ use native.Mathlib.Decide.{decLt}
 use native.Mathlib.Omega.{arith}
 use lib.ListN.{length, length-append}
 use Rattle.text.specs.Grammar.{Rule, Row, header, Rows, none, last, more, Text, header-alone, header-ended, Right, Ended, start, ended, Broken}
-use Rattle.text.specs.Scanning.{Ends}
+use Rattle.text.specs.Parts.Scanning.{Ends}
 use Rattle.numerals.proofs.Cutting.{Without, cut-unique, cut-beyond}
 use Rattle.text.proofs.RowLaws.{row-unique, row-without-cr, header-without-cr}
 

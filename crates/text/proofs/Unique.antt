@@ -4,7 +4,7 @@
 --     verdict-unique        so a text has one verdict
 --     reading-unique        two readings of one text are equal
 --     reading-exactly       a refusal is given exactly when its rule says: whatever number and place the verdict allows, the reading has them
---     Same, written-unique  what two runs leave in the four lists
+--     SameLists, written-unique  what two runs leave in the four lists
 --     read-unique           all of it: two results of `read_rules` are equal
 -- Assumes nothing.
 use mathlib.Core.Path.{_≡_, sym, ap, subst, _∙_}
@@ -59,7 +59,7 @@ reading-unique {a = a} {b} x y = go (ℕ-discrete (a .refusal) 0)
 
 -- ---- the lists
 
-pub record Same (ss ss′ ts ts′ : List ℕ) (ds ds′ Ds Ds′ : List ℤ) : Type 0 where
+pub record SameLists (ss ss′ ts ts′ : List ℕ) (ds ds′ Ds Ds′ : List ℤ) : Type 0 where
   pub sources : ss ≡ ss′
   pub targets : ts ≡ ts′
   pub leasts : ds ≡ ds′
@@ -68,10 +68,10 @@ pub record Same (ss ss′ ts ts′ : List ℕ) (ds ds′ Ds Ds′ : List ℤ) : 
 pub written-unique : {bs : List ℕ} {Short : List Rule → Type 0} {a : Reading} {ss₀ ts₀ : List ℕ} {ds₀ Ds₀ : List ℤ} {ss ss′ ts ts′ : List ℕ} {ds ds′ Ds Ds′ : List ℤ}
     → ReadOff bs Short a
     → RulesWritten bs a ss₀ ts₀ ds₀ Ds₀ ss ts ds Ds → RulesWritten bs a ss₀ ts₀ ds₀ Ds₀ ss′ ts′ ds′ Ds′
-    → Same ss ss′ ts ts′ ds ds′ Ds Ds′
+    → SameLists ss ss′ ts ts′ ds ds′ Ds Ds′
 written-unique {a = a} {ss = ss} {ss′} {ts} {ts′} {ds} {ds′} {Ds} {Ds′} x w w′ = go (ℕ-discrete (a .refusal) 0)
   where
-    go : Dec (a .refusal ≡ 0) → Same ss ss′ ts ts′ ds ds′ Ds Ds′
+    go : Dec (a .refusal ≡ 0) → SameLists ss ss′ ts ts′ ds ds′ Ds Ds′
     go (yes e) =
         let (rs, text, n, r) = x .found e in
         let h = w .written e rs text in
@@ -90,7 +90,7 @@ written-unique {a = a} {ss = ss} {ss′} {ts} {ts′} {ds} {ds′} {Ds} {Ds′} 
 pub read-unique : {bs : List ℕ} {Short : List Rule → Type 0} {a b : Reading} {ss₀ ts₀ : List ℕ} {ds₀ Ds₀ : List ℤ} {ss ss′ ts ts′ : List ℕ} {ds ds′ Ds Ds′ : List ℤ}
     → ReadOff bs Short a → RulesWritten bs a ss₀ ts₀ ds₀ Ds₀ ss ts ds Ds
     → ReadOff bs Short b → RulesWritten bs b ss₀ ts₀ ds₀ Ds₀ ss′ ts′ ds′ Ds′
-    → (a ≡ b) × (Same ss ss′ ts ts′ ds ds′ Ds Ds′)
+    → (a ≡ b) × (SameLists ss ss′ ts ts′ ds ds′ Ds Ds′)
 read-unique {bs} {ss₀ = ss₀} {ts₀} {ds₀} {Ds₀} {ss′ = ss′} {ts′ = ts′} {ds′ = ds′} {Ds′ = Ds′} pa wa pb wb =
     let same = reading-unique pa pb in
     let w = subst (λ (x : Reading). RulesWritten bs x ss₀ ts₀ ds₀ Ds₀ ss′ ts′ ds′ Ds′) (sym same) wb in

@@ -16,8 +16,8 @@ use lib.ListN.{length}
 use Rattle.verdicts.specs.Verdict.{given, passed, Accepted, accepted, AtZero}
 use Rattle.text.specs.declared.Reading.{Reading}
 use Rattle.text.specs.Grammar.{Rule, Text, Broken}
-use Rattle.text.specs.Reading.{events, ShortLists, Beyond, many-events, many-rows, short-list, CountsBeyond, TextVerdict, ReadOff, ListsHold, RulesWritten}
-use Rattle.text.specs.Scanning.{Scanned}
+use Rattle.text.specs.Reading.{events, ShortForRules, Beyond, many-events, many-rows, short-list, CountsBeyond, TextVerdict, ReadOff, ListsHold, RulesWritten}
+use Rattle.text.specs.Parts.Scanning.{Scanned}
 use Rattle.text.proofs.Texts.{text-unique, text-not-broken}
 use Rattle.text.proofs.Unique.{broken-first}
 
@@ -67,12 +67,12 @@ module _ (bs : List ℕ) (few : length bs ≤ 32768) where
     pub read-beyond : (ss ts : List ℕ) (ds Ds : List ℤ) {b : Reading} →
         (64 < a .events) ⊎ ((1024 < a .rules) ⊎ ((length ss < a .rules) ⊎ ((length ts < a .rules) ⊎ ((length ds < a .rules) ⊎ (length Ds < a .rules))))) →
         (b .refusal ≡ 1) × (b .place ≡ 0) × (b .events ≡ 0) × (b .rules ≡ 0) →
-        ReadOff bs (ShortLists ss ts ds Ds) b
+        ReadOff bs (ShortForRules ss ts ds Ds) b
     read-beyond ss ts ds Ds which z =
         read-refused (omega arith)
         (passed not-long (passed not-broken (given (record { zero-place = refl; holds = record { rs = the-rules; text = text; beyond = by which } })))) z
       where
-        by : (64 < a .events) ⊎ ((1024 < a .rules) ⊎ ((length ss < a .rules) ⊎ ((length ts < a .rules) ⊎ ((length ds < a .rules) ⊎ (length Ds < a .rules))))) → Beyond (ShortLists ss ts ds Ds) the-rules
+        by : (64 < a .events) ⊎ ((1024 < a .rules) ⊎ ((length ss < a .rules) ⊎ ((length ts < a .rules) ⊎ ((length ds < a .rules) ⊎ (length Ds < a .rules))))) → Beyond (ShortForRules ss ts ds Ds) the-rules
         by (inl h) = many-events (subst (λ (x : ℕ). 64 < x) event-count h)
         by (inr (inl h)) = many-rows (subst (λ (x : ℕ). 1024 < x) rule-count h)
         by (inr (inr (inl h))) = short-list (inl (subst (λ (x : ℕ). length ss < x) rule-count h))
@@ -82,10 +82,10 @@ module _ (bs : List ℕ) (few : length bs ≤ 32768) where
 
     module _ (ss ts : List ℕ) (ds Ds : List ℤ) (kept : (a .events ≤ 64) × (a .rules ≤ 1024) × (a .rules ≤ length ss) × (a .rules ≤ length ts) × (a .rules ≤ length ds) × (a .rules ≤ length Ds)) where
       -- there is one list of rules of which this text can be that
-      not-beyond : (q : ℕ) → AtZero (CountsBeyond bs (ShortLists ss ts ds Ds)) q → ⊥
-      not-beyond q z = by (subst (Beyond (ShortLists ss ts ds Ds)) (text-unique (z .holds .text) text) (z .holds .beyond))
+      not-beyond : (q : ℕ) → AtZero (CountsBeyond bs (ShortForRules ss ts ds Ds)) q → ⊥
+      not-beyond q z = by (subst (Beyond (ShortForRules ss ts ds Ds)) (text-unique (z .holds .text) text) (z .holds .beyond))
         where
-          by : Beyond (ShortLists ss ts ds Ds) the-rules → ⊥
+          by : Beyond (ShortForRules ss ts ds Ds) the-rules → ⊥
           by (many-events h) = omega (arith, event-count, kept .0)
           by (many-rows h) = omega (arith, rule-count, kept .1)
           by (short-list (inl h)) = omega (arith, rule-count, kept .2)
@@ -93,10 +93,10 @@ module _ (bs : List ℕ) (few : length bs ≤ 32768) where
           by (short-list (inr (inr (inl h)))) = omega (arith, rule-count, kept .4)
           by (short-list (inr (inr (inr h)))) = omega (arith, rule-count, kept .5)
 
-      pub read-right : ReadOff bs (ShortLists ss ts ds Ds) a
+      pub read-right : ReadOff bs (ShortForRules ss ts ds Ds) a
       read-right =
           record {
-            verdict = subst₂ (TextVerdict bs (ShortLists ss ts ds Ds) Accepted) (sym right) (sym (s .right-place right)) (passed not-long (passed not-broken (passed not-beyond accepted)));
+            verdict = subst₂ (TextVerdict bs (ShortForRules ss ts ds Ds) Accepted) (sym right) (sym (s .right-place right)) (passed not-long (passed not-broken (passed not-beyond accepted)));
             found = s .right;
             no-events = λ n. absurd (n right);
             no-rules = λ n. absurd (n right);

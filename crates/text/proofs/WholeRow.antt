@@ -14,8 +14,8 @@ use lib.IntN.{ℤ}
 use lib.ListN.{length, drop, length-append, length-drop}
 use Rattle.numerals.specs.Numbers.{Number, Field}
 use Rattle.text.specs.Grammar.{Rule, Row}
-use Rattle.text.specs.Scanning.{Ends, RowAt}
-use Rattle.text.specs.Parts.{PartAt, Comma, Closing}
+use Rattle.text.specs.Parts.Scanning.{Ends, RowAt}
+use Rattle.text.specs.Parts.Fields.{PartAt, Comma, Closing}
 use Rattle.text.specs.declared.rows.RuleRow.{RuleRow}
 use Rattle.numerals.proofs.Cuts.{number-cut, field-cut, number-below}
 use Rattle.text.proofs.RowLaws.{row-some}

@@ -1,6 +1,6 @@
 -- The loop that writes the rules, one place of each list a turn.
 --     put-length, put-more  a list whose first places hold one entry for each rule: its length, and one rule more
---     Writing …             the rules before `at` are written, and what follows is the rest of the text
+--     RulesGoing …          the rules before `at` are written, and what follows is the rest of the text
 --     Turn …                what a turn may count on: there is room
 --     writing-none          before the first turn
 --     turn-kept             each turn may: the text is right, so one rule more is left
@@ -18,10 +18,10 @@ use lib.ListN.{length, drop, set, getD, length-append, length-drop, length-map}
 use lib.Seq.{drop-cons, set-at, drop-at, append-snoc}
 use Rattle.text.specs.Grammar.{Rule, header, Text}
 use Rattle.text.specs.Reading.{ListsHold}
-use Rattle.text.specs.Scanning.{ruleOf, RowAt}
+use Rattle.text.specs.Parts.Scanning.{ruleOf, RowAt}
 use Rattle.text.specs.declared.rows.RuleRow.{RuleRow}
 use Rattle.text.proofs.Texts.{After, FirstRow, after-ends, after-rows, text-cut, rows-first, text-unique, text-not-broken}
-use Rattle.text.proofs.Progress.{one-more, Progress, header-room, progress-none, ending, progress-more, progress-done, progress-broken}
+use Rattle.text.proofs.Progress.{one-more, RowsRead, header-room, progress-none, ending, progress-more, progress-done, progress-broken}
 
 -- ---- one list
 
@@ -42,10 +42,10 @@ module _ {A B : Type 0} (f : A → B) where
 
 -- ---- the four lists
 
-pub record Writing (bs : List ℕ) (ss₀ ts₀ : List ℕ) (ds₀ Ds₀ : List ℤ) (ss ts : List ℕ) (ds Ds : List ℤ) (at i : ℕ) : Type 0 where
+pub record RulesGoing (bs : List ℕ) (ss₀ ts₀ : List ℕ) (ds₀ Ds₀ : List ℤ) (ss ts : List ℕ) (ds Ds : List ℤ) (at i : ℕ) : Type 0 where
   pub done : List Rule
   pub left : List Rule
-  pub progress : Progress bs at done
+  pub progress : RowsRead bs at done
   pub after : After (drop at bs) left
   pub place : i ≡ length done
   pub sources-room : length done + length left ≤ length ss₀
@@ -63,7 +63,7 @@ pub record Turn (bs ss ts : List ℕ) (ds Ds : List ℤ) (i : ℕ) : Type 0 wher
 
 module _ {bs : List ℕ} {ss₀ ts₀ : List ℕ} {ds₀ Ds₀ : List ℤ} where
   pub writing-none : (rs : List Rule) → Text bs rs → length rs ≤ length ss₀ → length rs ≤ length ts₀ → length rs ≤ length ds₀ → length rs ≤ length Ds₀ →
-      Writing bs ss₀ ts₀ ds₀ Ds₀ ss₀ ts₀ ds₀ Ds₀ 24 0
+      RulesGoing bs ss₀ ts₀ ds₀ Ds₀ ss₀ ts₀ ds₀ Ds₀ 24 0
   writing-none rs text s t d D =
       let cut = text-cut text in
       let rest : drop 24 bs ≡ cut .rest = ap (drop 24) (cut .bytes) ∙ drop-at header (cut .rest) 24 refl in
@@ -82,7 +82,7 @@ module _ {bs : List ℕ} {ss₀ ts₀ : List ℕ} {ds₀ Ds₀ : List ℤ} where
         lists = record { sources-hold = refl; targets-hold = refl; leasts-hold = refl; mosts-hold = refl };
       }
 
-  module _ {ss ts : List ℕ} {ds Ds : List ℤ} {at i : ℕ} (w : Writing bs ss₀ ts₀ ds₀ Ds₀ ss ts ds Ds at i) where
+  module _ {ss ts : List ℕ} {ds Ds : List ℤ} {at i : ℕ} (w : RulesGoing bs ss₀ ts₀ ds₀ Ds₀ ss ts ds Ds at i) where
     pub sources-length : length ss ≡ length ss₀
     sources-length = put-length (λ (r : Rule). r .source) (w .done) ss₀ ss (omega (arith, w .sources-room)) (w .lists .sources-hold)
 
@@ -129,7 +129,7 @@ module _ {bs : List ℕ} {ss₀ ts₀ : List ℕ} {ds₀ Ds₀ : List ℤ} where
       pub row-later : at < a .next
       row-later = omega (arith, found .right row-right .4)
 
-      pub writing-more : Writing bs ss₀ ts₀ ds₀ Ds₀ (set ss i (a .source)) (set ts i (a .target)) (set ds i (a .least)) (set Ds i (a .most)) (a .next) (i + 1)
+      pub writing-more : RulesGoing bs ss₀ ts₀ ds₀ Ds₀ (set ss i (a .source)) (set ts i (a .target)) (set ds i (a .least)) (set Ds i (a .most)) (a .next) (i + 1)
       writing-more =
           let (line, row, bytes, ends, later) = found .right row-right in
           let more-done = one-more (w .done) (ruleOf a) in

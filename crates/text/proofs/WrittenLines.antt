@@ -15,7 +15,7 @@ use Rattle.integers.specs.Within.{Within}
 use Rattle.numerals.specs.Appending.{Appended, Put, NaturalPut, IntegerPut}
 use Rattle.text.specs.Output.{Pair, pairOf, upFrom, pairsFrom, pairsOfAll, pairs, RefusedLine, pairHeader, ending, refusedWord, outputPlaces}
 use Rattle.table.specs.Table.{entry}
-use Rattle.text.specs.TableLines.{LineOf, TableLine, TableLines, none, more, SmallEntries}
+use Rattle.text.specs.Parts.TableLines.{LineOf, TableLine, TableLines, none, more, SmallEntries}
 use Rattle.numerals.proofs.Appends.{appended-none, appended-more, appended-length, put-length}
 use Rattle.text.proofs.WrittenNumbers.{NaturalIn, IntegerIn, natural-in, integer-in, word, word-back, minus-back}
 

@@ -1,7 +1,7 @@
 -- What a reading of the text form is. Document 01, sections "Text form and the pair program" and "Refusal numbers"; demand 1.
 --     events rs            == n: "1 + the greatest event number seen, or 1 with no rows"
 --     graphOfRules rs      == the graph with that many events and these rules
---     ShortLists rs …      == one of the four lent lists is too short for the rules rs
+--     ShortForRules rs …      == one of the four lent lists is too short for the rules rs
 --     CountsBeyond bs Short == bs is the text of rules, and they, or their events, are too many, or Short says of them that a lent list is too short
 --     textChecks bs Short  == the refusals of a text
 --     TextVerdict bs Short Rest == the first of them that applies, then Rest
@@ -39,8 +39,8 @@ mostsOf rs = map (λ (r : Rule). r .most) rs
 abbrev pub graphOfRules : List Rule → Graph
 graphOfRules rs = graphOf (events rs) (sourcesOf rs) (targetsOf rs) (leastsOf rs) (mostsOf rs)
 
-abbrev pub ShortLists : List ℕ → List ℕ → List ℤ → List ℤ → List Rule → Type 0
-ShortLists ss ts ds Ds rs = (length ss < length rs) ⊎ ((length ts < length rs) ⊎ ((length ds < length rs) ⊎ (length Ds < length rs)))
+abbrev pub ShortForRules : List ℕ → List ℕ → List ℤ → List ℤ → List Rule → Type 0
+ShortForRules ss ts ds Ds rs = (length ss < length rs) ⊎ ((length ts < length rs) ⊎ ((length ds < length rs) ⊎ (length Ds < length rs)))
 
 -- "at most … 64 events and 1,024 rows"; "a lent output list is too short"
 pub data Beyond (Short : List Rule → Type 0) (rs : List Rule) : Type 0 where

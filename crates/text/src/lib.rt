@@ -9,7 +9,7 @@ ghost use mathlib.Core.List.{List};
 ghost use Prim.Native.Nat.{ℕ, _≤_};
 ghost use lib.ListN.{length};
 ghost use Rattle.separation.specs.Promise.{Nothing};
-ghost use Rattle.text.specs.Reading.{ReadOff, RulesWritten, ShortLists};
+ghost use Rattle.text.specs.Reading.{ReadOff, RulesWritten, ShortForRules};
 ghost use Rattle.text.specs.Answers.{TextAnswered};
 ghost use Rattle.text.specs.Output.{Output, outputPlaces, PairsWritten};
 ghost use Rattle.numerals.specs.Appending.{Appended};
@@ -51,7 +51,7 @@ pub fn read_rules(
     leasts: &mut [i64],
     mosts: &mut [i64],
 ) -> Reading
-    ensures { λ r. ⌜ ReadOff (now (text .entry)) (ShortLists (now (sources .entry)) (now (targets .entry)) (now (leasts .entry)) (now (mosts .entry))) r ⌝ }
+    ensures { λ r. ⌜ ReadOff (now (text .entry)) (ShortForRules (now (sources .entry)) (now (targets .entry)) (now (leasts .entry)) (now (mosts .entry))) r ⌝ }
     ensures { λ r. ⌜ RulesWritten (now (text .entry)) r (now (sources .entry)) (now (targets .entry)) (now (leasts .entry)) (now (mosts .entry)) (now (sources .exit)) (now (targets .exit)) (now (leasts .exit)) (now (mosts .exit)) ⌝ }
 {
     if text.len() > 32768 {

@@ -9,7 +9,7 @@ ghost use Rattle.graphs.specs.Limits.{EventGraph};
 ghost use Rattle.numerals.specs.Appending.{Appended};
 ghost use Rattle.text.specs.Output.{RefusedLine, Lines, pairs, pairsFrom, pairHeader, ending, outputPlaces};
 ghost use Rattle.table.specs.Table.{RowsFilled};
-ghost use Rattle.text.specs.TableLines.{LineOf, TableLines, SmallEntries};
+ghost use Rattle.text.specs.Parts.TableLines.{LineOf, TableLines, SmallEntries};
 use numerals::put_byte;
 use numerals::put_bytes;
 use numerals::put_integer;

@@ -1,12 +1,12 @@
 -- `places` meets its contract: a loop that takes one digit off a turn. Assumes nothing.
 use native.Mathlib.Omega.{arith}
 use native.Mathlib.Nat.{div-add-mod}
-use Rattle.numerals.proofs.WrittenNumbers.{Left, left-none, left-more, left-done}
+use Rattle.numerals.proofs.WrittenNumbers.{DigitsLeft, left-none, left-more, left-done}
 use Rattle.numerals.proofs.places.Statement.{statement}
 use Rattle.numerals.proofs.places.Tie as tie
 
 abbrev Inv-loop : tie.InvT-loop
-Inv-loop x rest₀ k₀ rest k = Left x k rest
+Inv-loop x rest₀ k₀ rest k = DigitsLeft x k rest
 
 abbrev μ-loop : tie.MeasureT-loop
 μ-loop x rest₀ k₀ rest k = rest

@@ -7,7 +7,7 @@ use denote.Ref.{now}
 use borrow.Author.Needs.{needs}
 use Rattle.processes.specs.Process.{ProcessGraph, processOf, templates}
 use Rattle.processes.specs.Unfolding.{ShortRuleLists, UnfoldingAnswered}
-use Rattle.processes.specs.Inner.Checks.{ProcessKept}
+use Rattle.processes.specs.Parts.Checks.{ProcessKept}
 use Rattle.processes.proofs.Verdicts.{kept-enough, some-short, shortest, answered-short}
 use Rattle.processes.proofs.Writing.{lists-refused, lists-written}
 use Rattle.processes.proofs.unfold.Statement.{statement}

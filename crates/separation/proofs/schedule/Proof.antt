@@ -1,86 +1,84 @@
--- `separation::schedule` meets its contract: what `check_input`, `analyse`, `write_times` and `write_delays` promise, put together. Assumes nothing.
+-- `schedule` meets its contract: what `analysed`, `write_times` and `write_delays` promise, put together. Assumes nothing.
 use mathlib.Core.Path.{_≡_, refl, sym, subst, _∙_}
-use mathlib.Core.Bool.{Bool, true}
+use mathlib.Core.Bool.{Bool, true, true≢false}
 use mathlib.Core.Logic.{_⊎_}
 use mathlib.Core.List.{List}
 use Prim.Native.Nat.{ℕ, _<_, _≤_}
 use native.Mathlib.Omega.{arith}
-use lib.IntN.{ℤ}
 use lib.ListN.{length}
 use denote.Ref.{now}
 use borrow.Author.Needs.{needs}
 use Rattle.graphs.specs.Graph.{Graph, graphOf}
-use Rattle.separation.specs.Analysis.{InputKept}
-use Rattle.separation.proofs.Arranging.{sized-up}
-use Rattle.separation.proofs.Filling.{rule-timed}
+use Rattle.separation.proofs.Verdicts.{answered-short}
 use Rattle.sequences.proofs.Lengths.{first-long, second-long}
-use Rattle.separation.proofs.Exact.{answered-short, answered-refused, answered-analysed, lists-refused, lists-written}
+use Rattle.separation.proofs.Times.{rule-timed}
+use Rattle.separation.proofs.Exact.{answered-too-short, answered-analysed, lists-refused, lists-written}
 use Rattle.separation.proofs.schedule.Statement.{statement}
 use Rattle.separation.proofs.schedule.Tie as tie
 
-abbrev graph : tie.Start → Graph
-graph a = graphOf (a .args .n) (now (a .args .sources)) (now (a .args .targets)) (now (a .args .leasts)) (now (a .args .mosts))
-
--- ---- past the refusals of the input
+-- ---- past the test of the lists
 
 module _ (c : tie.Else1) where
-  kept : InputKept (graph (c .before .before .before .before .before .before)) (c .before .before .before .before .before .before .args .s) (c .before .before .before .before .before .before .args .t) (c .before .before .before .too-short .result ≡ true)
-  kept = c .before .before .check-input .ensures .kept (c .if1 .left)
+  roomy : (length (now (c .before .before .before .before .args .times)) < c .before .before .before .before .args .n) ⊎ (length (now (c .before .before .before .before .args .delays)) < length (now (c .before .before .before .before .args .sources))) → ⊥
+  roomy x = true≢false (sym (c .before .too-short .ensures .1 x) ∙ c .if1 .left)
 
-  times-long : c .before .before .before .before .before .before .args .n ≤ length (now (c .before .before .before .before .before .before .args .times))
-  times-long = first-long (λ x. kept .long-enough (c .before .before .before .too-short .ensures .1 x))
+  times-long : c .before .before .before .before .args .n ≤ length (now (c .before .before .before .before .args .times))
+  times-long = first-long roomy
 
-  delays-long : length (now (c .before .before .before .before .before .before .args .sources)) ≤ length (now (c .before .before .before .before .before .before .args .delays))
-  delays-long = second-long (λ x. kept .long-enough (c .before .before .before .too-short .ensures .1 x))
+  delays-long : length (now (c .before .before .before .before .args .sources)) ≤ length (now (c .before .before .before .before .args .delays))
+  delays-long = second-long roomy
+
+-- ---- the needs
 
 too-short-requires : tie.Need-too-short-requires
 too-short-requires c κs = search needs
 
-check-input-requires : tie.Need-check-input-requires
-check-input-requires c κs = search needs
+refused-requires : tie.Need-refused-requires
+refused-requires c κs = search needs
 
 returns : tie.Need-returns
-returns c =
-    let short = c .before .before .before .too-short in (
-      answered-short (short .ensures .0) (short .ensures .1) (answered-refused (c .before .before .check-input .ensures) (c .if1 .taken)),
-      lists-refused (c .if1 .taken),
-    )
+returns c = (
+  answered-too-short (c .before .before .too-short .ensures .0 (c .before .if1 .taken)) (c .refused .ensures),
+  lists-refused (λ e. let none : ⊥ = omega (arith, c .refused .ensures .0) in none),
+)
 
-slice-aggregate-analyse : tie.Need-slice-aggregate-analyse
-slice-aggregate-analyse c = search needs
+slice-aggregate-analysed : tie.Need-slice-aggregate-analysed
+slice-aggregate-analysed c = search needs
 
-analyse-requires : tie.Need-analyse-requires
-analyse-requires c κs =
-    let k = kept (c .before) in
-    (sized-up (omega arith) (k .sized), (k .source-known, k .target-known, refl {a = 1024}))
+analysed-requires : tie.Need-analysed-requires
+analysed-requires c κs = refl {a = 1024}
 
 returns-2 : tie.Need-returns-2
-returns-2 c =
-    let short = c .before .before .before .before .before .before .before .before .too-short in (
-      answered-short (short .ensures .0) (short .ensures .1) (answered-analysed (kept (c .before .before .before .before .before)) (c .before .before .before .analyse .ensures)),
-      lists-refused (c .if2 .taken),
-    )
+returns-2 c = (
+  answered-short (λ none. absurd none) (roomy (c .before .before .before .before .before)) (answered-analysed (c .before .before .before .analysed .ensures)),
+  lists-refused (c .if2 .taken),
+)
 
 slice-aggregate-write-times : tie.Need-slice-aggregate-write-times
 slice-aggregate-write-times c = search needs
 
 write-times-requires : tie.Need-write-times-requires
 write-times-requires c κs =
-    let k = kept (c .before .before .before .before .before .before .before) in (
-      (k .sized .counts .some-event, k .sized .counts .few-events, c .before .before .before .before .before .analyse .kept .1 .1 .1 .1 .1 .1 .1 .0, times-long (c .before .before .before .before .before .before .before)),
-      c .before .before .before .before .before .analyse .ensures .computed (c .before .before .if2 .left) .found .within,
+    let call = c .before .before .before .before .before .analysed in
+    let found = call .ensures .found (c .before .before .if2 .left) in
+    let counts = found .graph .sized .counts in (
+      (counts .some-event, counts .few-events, call .kept .1 .1 .1 .1 .1 .1 .1 .1 .0, times-long (c .before .before .before .before .before .before .before)),
+      found .within,
     )
 
 write-delays-requires : tie.Need-write-delays-requires
 write-delays-requires c κs =
-    let k = kept (c .before .before .before .before .before .before .before .before .before .before .before) in
-    let counts = k .sized .counts in
-    let written = c .before .before .before .write-times in
-    let near = c .before .before .before .before .before .before .before .before .before .analyse .ensures .computed (c .before .before .before .before .before .before .if2 .left) .found .within in (
-      (counts .targets-match, counts .mosts-match, counts .few-rules, delays-long (c .before .before .before .before .before .before .before .before .before .before .before)),
+    let start = c .before .before .before .before .before .before .before .before .before .before .before .before .before .before .before in
+    let passed = c .before .before .before .before .before .before .before .before .before .before .before in
+    let call = c .before .before .before .before .before .before .before .before .before .analysed in
+    let found = call .ensures .found (c .before .before .before .before .before .before .if2 .left) in
+    let sized = found .graph .sized in
+    let counts = sized .counts in
+    let written = c .before .before .before .write-times in (
+      (counts .targets-match, counts .mosts-match, counts .few-rules, delays-long passed),
       λ i h.
-          rule-timed (c .before .before .before .before .before .before .before .before .before .analyse .last .1 .1 .1 .1 .1 .1 .1 .0) {ss = now (c .before .before .before .before .before .before .before .before .before .before .before .before .before .before .before .before .before .args .sources)} {ts = now (c .before .before .before .before .before .before .before .before .before .before .before .before .before .before .before .before .before .args .targets)} {ds = now (c .before .before .before .before .before .before .before .before .before .before .before .before .before .before .before .before .before .args .leasts)}
-          (omega arith) (subst (λ (m : ℕ). c .before .before .before .before .before .before .before .before .before .before .before .before .before .before .before .before .before .args .n ≤ m) (sym (written .kept .1 .1 .0)) (times-long (c .before .before .before .before .before .before .before .before .before .before .before))) near (written .ensures) (k .sized .ends i h) (k .sized .delays i h),
+          rule-timed (call .last .1 .1 .1 .1 .1 .1 .1 .1 .0) {ss = now (start .args .sources)} {ts = now (start .args .targets)} {ds = now (start .args .leasts)}
+          (omega arith) (subst (λ (m : ℕ). start .args .n ≤ m) (sym (written .kept .1 .1 .0)) (times-long passed)) (found .within) (written .ensures) (sized .ends i h) (sized .delays i h),
     )
 
 same-length : tie.Need-same-length
@@ -91,12 +89,11 @@ same-length-2 c = search needs
 
 returns-3 : tie.Need-returns-3
 returns-3 c =
-    let short = c .before .before .before .before .before .before .before .before .before .before .before .before .before .before .before .before .too-short in
-    let k = kept (c .before .before .before .before .before .before .before .before .before .before .before .before .before) in
-    let answer = c .before .before .before .before .before .before .before .before .before .before .before .analyse in
-    let zero-refusal = c .before .before .before .before .before .before .before .before .if2 .left in (
-      answered-short (short .ensures .0) (short .ensures .1) (answered-analysed k (answer .ensures)),
-      lists-written k zero-refusal (answer .ensures .computed zero-refusal) (c .before .before .before .before .before .write-times .ensures) (c .before .before .before .before .before .write-times .kept .1 .1 .0)
+    let passed = c .before .before .before .before .before .before .before .before .before .before .before .before .before in
+    let call = c .before .before .before .before .before .before .before .before .before .before .before .analysed in
+    let zero = c .before .before .before .before .before .before .before .before .if2 .left in (
+      answered-short (λ none. absurd none) (roomy passed) (answered-analysed (call .ensures)),
+      lists-written zero (call .ensures .found zero) (c .before .before .before .before .before .write-times .ensures) (c .before .before .before .before .before .write-times .kept .1 .1 .0)
           (c .before .write-delays .ensures) (c .before .write-delays .kept .1 .1 .1 .1 .0),
     )
 
@@ -105,10 +102,10 @@ schedule-spec =
     tie.close
     (tie.spec
     too-short-requires
-    check-input-requires
+    refused-requires
     returns
-    slice-aggregate-analyse
-    analyse-requires
+    slice-aggregate-analysed
+    analysed-requires
     returns-2
     slice-aggregate-write-times
     write-times-requires

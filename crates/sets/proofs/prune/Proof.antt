@@ -9,7 +9,8 @@ use Rattle.sets.proofs.prune.Statement.{statement}
 use Rattle.sets.proofs.prune.Tie as tie
 
 abbrev Inv-loop : tie.InvT-loop
-Inv-loop ls l-unlimited ws w-unlimited most n room pairs₀ count₀ some₀ last₀ pairs count some last = Keeping (candidates ls l-unlimited ws w-unlimited) room pairs count some last
+Inv-loop ls l-unlimited ws w-unlimited most n room pairs₀ count₀ some₀ last₀ pairs count some last =
+    Keeping (candidates ls l-unlimited ws w-unlimited) room pairs count some last
 
 abbrev μ-loop : tie.MeasureT-loop
 μ-loop ls l-unlimited ws w-unlimited most n room pairs₀ count₀ some₀ last₀ pairs count some last = room - count

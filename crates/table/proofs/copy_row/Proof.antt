@@ -6,7 +6,7 @@ use lib.Dec.{lit<}
 use denote.Ref.{now}
 use mir.Syntax.{w64}
 use Rattle.integers.proofs.Word.{difference-fits, difference-back}
-use Rattle.table.specs.Rows.{RowCopied}
+use Rattle.table.specs.Parts.Rows.{RowCopied}
 use Rattle.table.proofs.Rows.{copied-none, copied-more}
 use Rattle.table.proofs.copy_row.Statement.{statement}
 use Rattle.table.proofs.copy_row.Tie as tie

@@ -7,7 +7,7 @@ use native.Mathlib.Decide.{ℕ-discrete}
 use native.Mathlib.Omega.{arith}
 use lib.ListN.{length, getD}
 use borrow.Author.Needs.{needs}
-use Rattle.processes.specs.Inner.Checks.{MarkKept, MarkBroken}
+use Rattle.processes.specs.Parts.Checks.{MarkKept, MarkBroken}
 use Rattle.verdicts.proofs.Searches.{Passed, passed-none, passed-more, lowest-here, lowest-end}
 use Rattle.processes.proofs.checks.broken_mark.Statement.{statement}
 use Rattle.processes.proofs.checks.broken_mark.Tie as tie

@@ -6,7 +6,7 @@ use Prim.Native.Nat.{ℕ, _+_, _*_, _<_, _≤_}
 use native.Mathlib.Omega.{arith}
 use Rattle.processes.specs.Process.{ProcessGraph, templates}
 use Rattle.processes.specs.Unfolding.{ProcessCountsOutside, no-events, no-copies, many-occurrences, many-rules, targets-differ, leasts-differ, mosts-differ, marks-differ}
-use Rattle.processes.specs.Inner.Checks.{ProcessCountsKept, ProcessCountsChecked}
+use Rattle.processes.specs.Parts.Checks.{ProcessCountsKept, ProcessCountsChecked}
 use Rattle.processes.proofs.Products.{many, few}
 use Rattle.processes.proofs.checks.counts_kept.Statement.{statement}
 use Rattle.processes.proofs.checks.counts_kept.Tie as tie

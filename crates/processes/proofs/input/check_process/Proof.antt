@@ -7,10 +7,10 @@ use native.Mathlib.Omega.{arith}
 use denote.Ref.{now}
 use borrow.Author.Needs.{needs}
 use borrow.Author.Tests.{not-true, not-false}
-use Rattle.faults.specs.Faults.{EndsKnown, InsideDelays}
+use Rattle.refusals.specs.Faults.{EndsKnown, InsideDelays}
 use Rattle.verdicts.proofs.Searches.{all-good, as-long}
 use Rattle.processes.specs.Process.{ProcessGraph, processOf, templates, least, most}
-use Rattle.processes.specs.Inner.Checks.{ProcessCountsKept, MarkKept}
+use Rattle.processes.specs.Parts.Checks.{ProcessCountsKept, MarkKept}
 use Rattle.processes.proofs.Verdicts.{lowest-unknown, lowest-outside, lowest-broken, process-1, process-2, process-3, process-7, refusal-checked, kept-checked}
 use Rattle.processes.proofs.input.check_process.Statement.{statement}
 use Rattle.processes.proofs.input.check_process.Tie as tie

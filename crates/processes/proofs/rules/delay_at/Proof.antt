@@ -5,7 +5,7 @@ use native.Mathlib.Omega.{arith}
 use lib.IntN.{ℤ, pos}
 use mir.Syntax.{w64}
 use mir.ValLaws.{toZ-ofZ}
-use Rattle.processes.specs.Inner.Writing.{InstanceDelay}
+use Rattle.processes.specs.Parts.Writing.{InstanceDelay}
 use Rattle.processes.proofs.rules.delay_at.Statement.{statement}
 use Rattle.processes.proofs.rules.delay_at.Tie as tie
 

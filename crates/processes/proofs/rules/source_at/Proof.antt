@@ -4,7 +4,7 @@ use Prim.Native.Nat.{ℕ, suc, _+_, _*_, _-_, _<_, _≤_}
 use native.Mathlib.Nat.{mul-le-mul-right}
 use native.Mathlib.Omega.{arith}
 use borrow.Author.Needs.{needs}
-use Rattle.processes.specs.Inner.Writing.{InstanceSource}
+use Rattle.processes.specs.Parts.Writing.{InstanceSource}
 use Rattle.processes.proofs.rules.source_at.Statement.{statement}
 use Rattle.processes.proofs.rules.source_at.Tie as tie
 

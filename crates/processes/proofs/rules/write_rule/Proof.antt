@@ -6,7 +6,7 @@ use mir.Syntax.{w64}
 use mir.Val.{SFits, toZ, ofZ}
 use mir.ValLaws.{toZ-ofZ}
 use borrow.Author.Needs.{needs, sfits-of}
-use Rattle.processes.specs.Inner.Writing.{InstanceDelay}
+use Rattle.processes.specs.Parts.Writing.{InstanceDelay}
 use Rattle.processes.proofs.rules.write_rule.Statement.{statement}
 use Rattle.processes.proofs.rules.write_rule.Tie as tie
 

@@ -11,9 +11,8 @@ use borrow.Author.Needs.{scaled-fits}
 use Rattle.integers.specs.Within.{Within}
 use Rattle.integers.proofs.Word.{read-back}
 use Rattle.executions.specs.Steps.{Lesser}
-use Rattle.separation.specs.Lists.{DelayAt, RuleTimed}
-use Rattle.sequences.proofs.Filling.{Filling, filling-none, filling-more}
-use Rattle.separation.proofs.Filling.{list-filled}
+use Rattle.separation.specs.Parts.Lists.{DelayAt, RuleTimed}
+use Rattle.sequences.proofs.Filling.{Filling, filling-none, filling-more, filling-done}
 use Rattle.separation.proofs.lists.write_delays.Statement.{statement}
 use Rattle.separation.proofs.lists.write_delays.Tie as tie
 
@@ -119,7 +118,7 @@ same-length : tie.Need-same-length Inv-loop μ-loop
 same-length c = c .before .loop .inv .same-length
 
 returns : tie.Need-returns Inv-loop μ-loop
-returns c = list-filled _ _ _ (c .before .loop .i) _ (c .before .loop .inv) (c .loop-test .left)
+returns c = filling-done (pos 0) _ _ _ (c .before .loop .i) _ (c .before .loop .inv) (c .loop-test .left)
 
 pub write-delays-spec : {M : Type 1} → statement M
 write-delays-spec =

@@ -3,11 +3,10 @@ use Prim.Native.Nat.{_-_}
 use native.Mathlib.Omega.{arith}
 use lib.Dec.{lit<}
 use lib.IntN.{pos}
-use Rattle.separation.specs.Lists.{TimeAt}
+use Rattle.separation.specs.Parts.Lists.{TimeAt}
 use mir.Syntax.{w64}
 use Rattle.integers.proofs.Word.{difference-fits, difference-back}
-use Rattle.sequences.proofs.Filling.{Filling, filling-none, filling-more}
-use Rattle.separation.proofs.Filling.{list-filled}
+use Rattle.sequences.proofs.Filling.{Filling, filling-none, filling-more, filling-done}
 use Rattle.separation.proofs.lists.write_times.Statement.{statement}
 use Rattle.separation.proofs.lists.write_times.Tie as tie
 
@@ -66,7 +65,7 @@ same-length : tie.Need-same-length Inv-loop μ-loop
 same-length c = c .before .loop .inv .same-length
 
 returns : tie.Need-returns Inv-loop μ-loop
-returns c = list-filled _ _ _ (c .before .loop .v) _ (c .before .loop .inv) (c .loop-test .left)
+returns c = filling-done (pos 0) _ _ _ (c .before .loop .v) _ (c .before .loop .inv) (c .loop-test .left)
 
 pub write-times-spec : {M : Type 1} → statement M
 write-times-spec =

@@ -53,7 +53,7 @@ places s = simp length-map at (s .good .0 .1 .1 .0 .1 .0 .1)
 
 -- what stands past an array's end, which is never read
 abbrev past : HeldPair
-past = record { l = pos 0; «l_unlimited» = false; w = pos 0; «w_unlimited» = false }
+past = record { l = pos 0; w = pos 0; «l_unlimited» = false; «w_unlimited» = false }
 
 returns : tie.Need-returns Inv-loop μ-loop
 returns c =
@@ -71,7 +71,8 @@ returns-2 c =
     let loop = turn .before .before .before in
     let s = loop .before .before .before in
     simp (toZ-ofZ (s .fits .x)) at
-    (place-outside (s .args .self .pairs) past _ (loop .loop .i) (omega (arith, places s)) _ (turn .pair-value .ensures) (s .args .self .count) (omega arith) (c .enum-told2 .given .1))
+    (place-outside (s .args .self .pairs) past _ (loop .loop .i) (omega (arith, places s)) _ (turn .pair-value .ensures)
+    (s .args .self .count) (omega arith) (c .enum-told2 .given .1))
 
 add-i : tie.Need-add-i Inv-loop μ-loop
 add-i c = omega arith

@@ -72,7 +72,9 @@ l-is-number : (c : tie.After-struct-told3) → start c .args .p .«l_unlimited»
 unfolding start
 l-is-number c = c .before .before .before .before .before .before .before .if1 .left
 
-back : (c : tie.After-struct-told3) → toZ w64 (ofZ w64 (toZ w64 (ofZ w64 (start c .args .x)) +ℤ toZ w64 (ofZ w64 (start c .args .p .l)))) ≡ start c .args .x +ℤ start c .args .p .l
+back :
+    (c : tie.After-struct-told3)
+    → toZ w64 (ofZ w64 (toZ w64 (ofZ w64 (start c .args .x)) +ℤ toZ w64 (ofZ w64 (start c .args .p .l)))) ≡ start c .args .x +ℤ start c .args .p .l
 unfolding start
 back c = sum-back _ _ (start c .fits .x) (l-fits (start c)) (x-near c) (l-near c)
 

@@ -8,12 +8,12 @@ use mir.Syntax.{w64}
 use mir.Val.{SFits, toZ, ofZ}
 use mir.ValLaws.{toZ-ofZ}
 use denote.Ref.{now}
-use Rattle.text.proofs.Writing.{Writing, Turn, writing-none, sources-length, targets-length, leasts-length, mosts-length, turn-kept, row-later, writing-more, writing-done}
+use Rattle.text.proofs.Writing.{RulesGoing, Turn, writing-none, sources-length, targets-length, leasts-length, mosts-length, turn-kept, row-later, writing-more, writing-done}
 use Rattle.text.proofs.rules.write_rules.Statement.{statement}
 use Rattle.text.proofs.rules.write_rules.Tie as tie
 
 abbrev Inv-loop : tie.InvT-loop
-Inv-loop text sources₀ targets₀ leasts₀ mosts₀ at₀ i₀ sources targets leasts mosts at i = Writing text sources₀ targets₀ leasts₀ mosts₀ sources targets leasts mosts at i
+Inv-loop text sources₀ targets₀ leasts₀ mosts₀ at₀ i₀ sources targets leasts mosts at i = RulesGoing text sources₀ targets₀ leasts₀ mosts₀ sources targets leasts mosts at i
 
 abbrev μ-loop : tie.MeasureT-loop
 μ-loop text sources₀ targets₀ leasts₀ mosts₀ at₀ i₀ sources targets leasts mosts at i = length text - at
@@ -29,8 +29,8 @@ few c = omega (arith, turn c .small, c .before .before .before .before .before .
 held : {bs ss₀ ts₀ ss ts : List ℕ} {ds₀ Ds₀ : List ℤ} (ds Ds : List ℤ) {d D : ℤ} (i : ℕ) {at k : ℕ} →
     SFits w64 d →
     SFits w64 D →
-    Writing bs ss₀ ts₀ ds₀ Ds₀ ss ts (set ds i d) (set Ds i D) at k →
-    Writing bs ss₀ ts₀ ds₀ Ds₀ ss ts (set ds i (toZ w64 (ofZ w64 d))) (set Ds i (toZ w64 (ofZ w64 D))) at k
+    RulesGoing bs ss₀ ts₀ ds₀ Ds₀ ss ts (set ds i d) (set Ds i D) at k →
+    RulesGoing bs ss₀ ts₀ ds₀ Ds₀ ss ts (set ds i (toZ w64 (ofZ w64 d))) (set Ds i (toZ w64 (ofZ w64 D))) at k
 held ds Ds {d} {D} i e f w = rw (toZ-ofZ w64 d e, toZ-ofZ w64 D f) w
 
 loop-holds : tie.Need-loop-holds Inv-loop μ-loop

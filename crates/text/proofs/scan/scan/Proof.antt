@@ -4,12 +4,12 @@ use native.Mathlib.Omega.{arith}
 use lib.ListN.{length}
 use borrow.Author.Needs.{needs}
 use borrow.Author.Tests.{not-true, not-false}
-use Rattle.text.proofs.Progress.{Counted, counted-none, counted-small, row-longer, counted-more, counted-broken, scanned-right, scanned-broken, header-broken}
+use Rattle.text.proofs.Progress.{RowsCounted, counted-none, counted-small, row-longer, counted-more, counted-broken, scanned-right, scanned-broken, header-broken}
 use Rattle.text.proofs.scan.scan.Statement.{statement}
 use Rattle.text.proofs.scan.scan.Tie as tie
 
 abbrev Inv-loop : tie.InvT-loop
-Inv-loop text at₀ rules₀ events₀ at rules events = Counted text at rules events
+Inv-loop text at₀ rules₀ events₀ at rules events = RowsCounted text at rules events
 
 abbrev μ-loop : tie.MeasureT-loop
 μ-loop text at₀ rules₀ events₀ at rules events = length text - at

@@ -1,0 +1,89 @@
+-- What the parts of the analysis hand on, put together.
+--     ends-wider          keys below n are below any larger number
+--     sized-ends          the sources and the targets of a graph whose events are known are below n
+--     sized-up            a graph whose delays lie within 1,000,000 may be analysed
+--     arranged-acyclic    a graph whose events are in order has no cycle
+--     path-5, path-6, path-0    refusals 5 and 6, and that neither applies
+--     path-refused        refusal 5 or 6 is what the passes answer
+--     path-computed       and so is what they computed
+-- Assumes nothing.
+use mathlib.Core.Path.{_≡_, refl, sym, subst, subst₂}
+use mathlib.Core.List.{List}
+use Prim.Native.Nat.{ℕ, _<_, _≤_}
+use native.Mathlib.Omega.{arith}
+use lib.IntN.{ℤ}
+use lib.ListN.{length, getD}
+use Rattle.integers.proofs.Word.{within-wider}
+use Rattle.graphs.specs.Graph.{Graph, graphOf}
+use Rattle.graphs.specs.Path.{HasCycle, Reachable}
+use Rattle.graphs.specs.Refusal.{Unreached, pathChecks}
+use Rattle.verdicts.specs.Verdict.{given, passed, FirstOf, Lowest}
+use Rattle.verdicts.proofs.Verdicts.{none-accepted}
+use Rattle.graphs.proofs.Refusals.{cycle-misses, path-none}
+use Rattle.graphs.specs.Limits.{Sized}
+use Rattle.graphs.proofs.Paths.{ranked-acyclic}
+use Rattle.analysis.specs.declared.Analysis.{Analysis}
+use Rattle.analysis.specs.Parts.Passes.{EndsBelow}
+use Rattle.analysis.specs.Parts.Arranged.{Arranged, Computed, PathsAnalysed}
+
+pub ends-wider : {n m : ℕ} {keys : List ℕ} → n ≤ m → EndsBelow n keys → EndsBelow m keys
+ends-wider l e = record { below = λ i h. omega (arith, e .below i h) }
+
+module _ {b n : ℕ} {ss ts : List ℕ} {ds Ds : List ℤ} (sized : Sized b (graphOf n ss ts ds Ds)) where
+  pub sources-below : EndsBelow n ss
+  sources-below = record { below = λ i h. sized .ends i h .source-known }
+
+  pub targets-below : EndsBelow n ts
+  targets-below = record { below = λ i h. sized .ends i (subst (λ (k : ℕ). i < k) (sized .counts .targets-match) h) .target-known }
+
+pub sized-up : {a b : ℕ} {g : Graph} → a ≤ b → Sized a g → Sized b g
+sized-up {g = g} l s =
+    record {
+      counts = s .counts;
+      ends = s .ends;
+      delays = λ i h.
+          record {
+            least-within = within-wider l (s .delays i h .least-within);
+            most-within = within-wider l (s .delays i h .most-within);
+            ordered = s .delays i h .ordered;
+          };
+    }
+
+pub arranged-acyclic : {n : ℕ} {ss ts heads-out nexts-out heads-in nexts-in order : List ℕ} {ds Ds : List ℤ} → Arranged n ss ts heads-out nexts-out heads-in nexts-in order → HasCycle (graphOf n ss ts ds Ds) → ⊥
+arranged-acyclic a = ranked-acyclic (a .rank) (a .ordered .sources-first)
+
+-- ---- refusals 5 and 6
+
+module _ {g : Graph} where
+  pub path-5 : HasCycle g → FirstOf (pathChecks g) 5 0
+  path-5 h = given (record { zero-place = refl; holds = h })
+
+  pub path-6 : (HasCycle g → ⊥) → {p : ℕ} → Lowest (Unreached g) p → FirstOf (pathChecks g) 6 p
+  path-6 acyclic h = passed (cycle-misses acyclic) (given h)
+
+  pub path-0 : (HasCycle g → ⊥) → ((v : ℕ) → v < g .events → Reachable g v) → FirstOf (pathChecks g) 0 0
+  path-0 acyclic reachable = none-accepted (pathChecks g) (path-none acyclic reachable)
+
+abbrev pub Refused : ℕ → ℕ → Analysis → Type 0
+Refused k p a = (a .refusal ≡ k) × (a .place ≡ p) × (a .«source_depth» ≡ 0) × (a .«target_depth» ≡ 0)
+
+module _ {g : Graph} {s t : ℕ} {a : Analysis} where
+  pub path-refused : {us : List ℤ} (k p : ℕ) → 0 < k → Refused k p a → FirstOf (pathChecks g) k p → PathsAnalysed g s t us us a
+  path-refused k p positive r v =
+      record {
+        verdict = subst₂ (FirstOf (pathChecks g)) (sym (r .0)) (sym (r .1)) v;
+        computed = λ e. absurd (let none : ⊥ = omega (arith, r .0) in none);
+        no-source-depth = λ _. r .2;
+        no-target-depth = λ _. r .3;
+        kept = λ _. refl;
+      }
+
+  pub path-computed : {us₀ us : List ℤ} → a .refusal ≡ 0 → a .place ≡ 0 → Computed g s t us₀ us a → PathsAnalysed g s t us₀ us a
+  path-computed e f c =
+      record {
+        verdict = subst₂ (FirstOf (pathChecks g)) (sym e) (sym f) (path-0 (c .acyclic) (c .reachable));
+        computed = λ _. c;
+        no-source-depth = λ n. absurd (n e);
+        no-target-depth = λ n. absurd (n e);
+        kept = λ n. absurd (n e);
+      }

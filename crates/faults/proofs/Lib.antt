@@ -1,2 +1,0 @@
--- That the promises allow one answer.
-pub mod Unique

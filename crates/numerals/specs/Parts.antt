@@ -1,0 +1,2 @@
+-- What the contracts of the functions within cite. A reader of the promises needs none of it.
+pub mod Digits

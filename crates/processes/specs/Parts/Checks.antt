@@ -1,0 +1,48 @@
+-- What the checks on a process graph find, and what holds once they have passed.
+--     ProcessCountsKept g K          == the counts of g and K are within their limits, and the five lists have one entry for each template
+--     ProcessCountsChecked g K b     == b is true and the counts are kept, or b is false and one is outside
+--     MarkKept ms j, MarkBroken ms j == the offset mark of template j is 0 or 1, or neither
+--     ProcessKept g K n              == nothing is refused: the counts, the events and the marks are kept, and n places are enough
+--     ProcessChecked g K n a         == a is the answer where the shortest lent list has n places
+-- Templates with marks ms, K copies. Events and delays are checked as those of a graph, by the crate faults. Assumes nothing.
+use mathlib.Core.Path.{_≡_}
+use mathlib.Core.Bool.{Bool, true, false}
+use mathlib.Core.Logic.{_⊎_}
+use mathlib.Core.List.{List}
+use Prim.Native.Nat.{ℕ, _+_, _*_, _<_, _≤_}
+use lib.ListN.{length, getD}
+use Rattle.refusals.specs.Faults.{EndsKnown}
+use Rattle.processes.specs.declared.Unfolded.{Unfolded}
+use Rattle.processes.specs.Process.{ProcessGraph, templates}
+use Rattle.processes.specs.Unfolding.{ProcessCountsOutside, UnfoldingAnswered}
+
+pub record ProcessCountsKept (g : ProcessGraph) (K : ℕ) : Type 0 where
+  pub some-event : 0 < g .events
+  pub some-copy : 0 < K
+  pub few-occurrences : 1 + g .events * K ≤ 1024
+  pub few-rules : templates g * K ≤ 4096
+  pub targets-match : length (g .targets) ≡ templates g
+  pub leasts-match : length (g .leasts) ≡ templates g
+  pub mosts-match : length (g .mosts) ≡ templates g
+  pub marks-match : length (g .marks) ≡ templates g
+
+pub record ProcessCountsChecked (g : ProcessGraph) (K : ℕ) (b : Bool) : Type 0 where
+  pub kept : b ≡ true → ProcessCountsKept g K
+  pub outside : b ≡ false → ProcessCountsOutside g K
+
+abbrev pub MarkKept : List ℕ → ℕ → Type 0
+MarkKept ms j = (getD ms j 0 ≡ 0) ⊎ (getD ms j 0 ≡ 1)
+
+pub record MarkBroken (ms : List ℕ) (j : ℕ) : Type 0 where
+  pub not-zero : getD ms j 0 ≡ 0 → ⊥
+  pub not-one : getD ms j 0 ≡ 1 → ⊥
+
+pub record ProcessKept (g : ProcessGraph) (K n : ℕ) : Type 0 where
+  pub counts : ProcessCountsKept g K
+  pub known : (j : ℕ) → j < templates g → EndsKnown (g .events) (g .sources) (g .targets) j
+  pub marked : (j : ℕ) → j < templates g → MarkKept (g .marks) j
+  pub room : templates g * K ≤ n
+
+pub record ProcessChecked (g : ProcessGraph) (K n : ℕ) (a : Unfolded) : Type 0 where
+  pub answered : UnfoldingAnswered g K (n < templates g * K) a
+  pub kept : a .refusal ≡ 0 → ProcessKept g K n

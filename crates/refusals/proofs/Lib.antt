@@ -1,0 +1,3 @@
+-- That the promises allow one answer, and the verdict on a question.
+pub mod Unique
+pub mod Question
