@@ -1,7 +1,7 @@
 // Runs document 01's figures and limits, and the report's worked tables, through the analysis.
 //     figures      01's figures, as answers of the program
 //     sizes        the greatest and the least counts, delays and answers
-//     refusals     each refusal, its place, and which of two is given first
+//     refused      each refusal, its place, and which of two is given first
 //     schedules    the two lists of a schedule: written, kept, longer than needed, too short
 //     steps        the coarse form: figures, limits of the step, and the order of its refusal
 //     unfoldings   unfoldings of process graphs: limits, refusals, figure 1
@@ -10,7 +10,7 @@
 mod ask;
 mod figures;
 mod printing;
-mod refusals;
+mod refused;
 mod report;
 mod schedules;
 mod sizes;
@@ -21,7 +21,7 @@ mod unfoldings;
 fn main() {
     figures::all();
     sizes::all();
-    refusals::all();
+    refused::all();
     schedules::all();
     steps::all();
     unfoldings::all();

@@ -2,8 +2,8 @@
 use native.Mathlib.Omega.{arith}
 use lib.ListN.{length-take}
 use borrow.Author.Needs.{needs}
-use Rattle.trials.proofs.refusals.of_lengths.Statement.{statement}
-use Rattle.trials.proofs.refusals.of_lengths.Tie as tie
+use Rattle.trials.proofs.refused.of_lengths.Statement.{statement}
+use Rattle.trials.proofs.refused.of_lengths.Tie as tie
 
 array-share-prefix-from : tie.Need-array-share-prefix-from
 array-share-prefix-from c = search needs
