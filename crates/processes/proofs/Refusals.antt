@@ -5,6 +5,7 @@
 --     process-places                                     each check of the list has one place
 --     counts-of, ends-of, delays-of, mark-of             what the absence of each refusal says; counts-inside is the first one's converse
 --     counts-miss, ends-miss, delays-miss, marks-miss    where what it asks is kept, the refusal applies nowhere
+--     delays-first                                       a delay outside is refused with 3, whatever the marks are
 --     process-none                                       so where all is kept and the lists are long enough, no check of the list applies
 --     process-kept                                       and only there
 --     short-alike                                        the checks, where "too short" is said in two ways
@@ -16,7 +17,7 @@ use native.Mathlib.Decide.{ℕ-discrete}
 use native.Mathlib.Omega.{arith}
 use lib.ListN.{length}
 use Rattle.sequences.proofs.Lengths.{stable}
-use Rattle.verdicts.specs.Verdict.{AtZero, Lowest}
+use Rattle.verdicts.specs.Verdict.{given, passed, FirstOf, AtZero, Lowest}
 use Rattle.verdicts.proofs.Verdicts.{OnePlaces, Misses, NoneApplies, lowest-unique, at-zero-unique, none-lowest, Alike, more-alike, alike-refl}
 use Rattle.graphs.specs.Graph.{Graph, graphOf}
 use Rattle.graphs.specs.Limits.{EndsKept, DelaysKept}
@@ -121,6 +122,10 @@ module _ {g : ProcessGraph} where
   marks-miss marks p a = ⊎-elim (a .holds .not-zero) (a .holds .not-one) (marks p (a .holds .is-template))
 
 module _ {g : ProcessGraph} {K : ℕ} {Short : Type 0} where
+  -- "unfolding 1, 2, 3, 7": a delay outside is refused with 3, whatever the marks are
+  pub delays-first : (Short → ⊥) → ProcessCountsKept g K → ((j : ℕ) → j < templates g → EndsKept (plain g) j) → {p : ℕ} → Lowest (TemplateDelayOutside g) p → FirstOf (processChecks g K Short) 3 p
+  delays-first room counts ends h = passed (counts-miss room counts) (passed (ends-miss ends) (given h))
+
   pub process-none : (Short → ⊥) → Kept g K → NoneApplies (processChecks g K Short)
   process-none room kept = (counts-miss room (kept .counts), (ends-miss (kept .each .ends), (delays-miss (kept .each .delays), (marks-miss (kept .each .marks), tt))))
 

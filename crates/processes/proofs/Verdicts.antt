@@ -24,7 +24,7 @@ use Rattle.processes.specs.declared.Unfolded.{Unfolded}
 use Rattle.processes.specs.Process.{ProcessGraph, templates, least, most}
 use Rattle.processes.specs.Unfolding.{ProcessCountsOutside, ShortRuleLists, short-sources, short-targets, short-leasts, short-mosts, UnknownTemplateEvent, TemplateDelayOutside, MarkOutside, processChecks, UnfoldingVerdict, UnfoldingAnswered}
 use Rattle.processes.specs.Parts.Checks.{ProcessCountsKept, MarkKept, MarkBroken, ProcessKept, ProcessChecked}
-use Rattle.processes.proofs.Refusals.{plain, counts-miss, ends-miss, delays-miss, process-none, short-alike}
+use Rattle.processes.proofs.Refusals.{plain, counts-miss, ends-miss, delays-miss, process-none, short-alike, delays-first}
 
 module _ (g : ProcessGraph) where
   known-kept : ((j : ℕ) → j < templates g → EndsKnown (g .events) (g .sources) (g .targets) j) → (j : ℕ) → j < templates g → EndsKept (plain g) j
@@ -73,7 +73,7 @@ module _ {g : ProcessGraph} {K n : ℕ} where
 
     module _ (known : (j : ℕ) → j < templates g → EndsKnown (g .events) (g .sources) (g .targets) j) where
       pub process-3 : {p : ℕ} → Lowest (TemplateDelayOutside g) p → UnfoldingVerdict g K (n < templates g * K) 3 p
-      process-3 h = passed (counts-miss (λ l. omega arith) counts) (passed (ends-miss (known-kept g known)) (given h))
+      process-3 h = delays-first (λ l. omega arith) counts (known-kept g known) h
 
       module _ (inside : (j : ℕ) → j < templates g → InsideDelays (least g j) (most g j)) where
         pub process-7 : {p : ℕ} → Lowest (MarkOutside g) p → UnfoldingVerdict g K (n < templates g * K) 7 p

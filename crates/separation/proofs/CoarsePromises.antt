@@ -1,4 +1,5 @@
 -- What the promise of the coarse form says of its answers.
+--     step-first              a step outside is refused with 9, whatever the paths are
 --     coarse-answer-unique    two answers to one question are equal
 --     coarse-costs            demand 3, second sentence: never below the exact maximum, and at most (q − 1) × (depth of s + depth of t) above it
 --     answers-cost            the same of two answers, a coarse one and an exact one
@@ -15,8 +16,8 @@ use native.Mathlib.Omega.{arith}
 use lib.IntN.{ℤ}
 use Rattle.integers.specs.Within.{Within}
 use Rattle.graphs.specs.Graph.{Graph}
-use Rattle.graphs.specs.Limits.{EventGraph}
-use Rattle.verdicts.specs.Verdict.{check, passed, FirstOf}
+use Rattle.graphs.specs.Limits.{Sized, EventGraph}
+use Rattle.verdicts.specs.Verdict.{check, given, passed, FirstOf}
 use Rattle.verdicts.proofs.Verdicts.{then-unique, one-verdict, then-more, rest-of, passed-all, none-accepted}
 use Rattle.graphs.specs.Refusal.{questionChecks, pathChecks}
 use Rattle.graphs.proofs.Refusals.{question-places, path-places, question-none, path-none}
@@ -31,6 +32,10 @@ use Rattle.separation.specs.declared.Answer.{Answer}
 use Rattle.separation.specs.Promise.{InputVerdict, PathVerdict, Answered}
 use Rattle.separation.specs.Coarse.{CoarseVerdict, CoarseAnswered}
 use Rattle.separation.proofs.Promises.{answered-exactly, answers-agree}
+
+-- "1, 2, 3, 4, 9 (coarse form only), 5, 6": of a question that is kept a step outside is refused with 9, whatever the paths are
+pub step-first : {g : Graph} {q s t p : ℕ} → Sized 1000000 g → s < g .events → t < g .events → StepOutside q p → CoarseVerdict g q s t 9 p
+step-first {g} {q} {s} {t} {p} sized hs ht outside = passed-all (questionChecks g s t ⊥) _ 9 p (question-none (λ none. none) sized hs ht) (given outside)
 
 coarse-verdict-unique : {g : Graph} {r s t : ℕ} {i p j q : ℕ} → CoarseVerdict g r s t i p → CoarseVerdict g r s t j q → (i ≡ j) × (p ≡ q)
 coarse-verdict-unique {g} {r} {s} {t} {i} {p} {j} {q} v w =
