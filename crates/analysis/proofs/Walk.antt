@@ -21,7 +21,7 @@ pub record Walk (keys : List ℕ) (v e : ℕ) (Q : ℕ → Type 0) : Type 0 wher
   pub seen : (j : ℕ) → e ≤ j → j < length keys → getD keys j 0 ≡ v → Q j
 
 module _ (keys heads nexts : List ℕ) (chained : Chained keys heads nexts) (v : ℕ) (Q : ℕ → Type 0) where
-  pub walk-start : v < 1024 → Walk keys v (getD heads v 0) Q
+  pub walk-start : v < length heads → Walk keys v (getD heads v 0) Q
   walk-start l =
       record {
         within = chained .heads-last v l .within;
