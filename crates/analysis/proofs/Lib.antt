@@ -2,3 +2,6 @@
 pub mod Walk
 pub mod Places
 pub mod Placement
+pub mod MPass
+pub mod Reach
+pub mod LatestPass

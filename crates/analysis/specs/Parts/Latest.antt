@@ -53,6 +53,7 @@ pub record Greater (x y z : ℤ) : Type 0 where
 pub record Arrivals (n : ℕ) (ss ts heads nexts : List ℕ) (Ds us : List ℤ) (depth : List ℕ) (v : ℕ) : Type 0 where
   pub chains : ChainLists n ts heads nexts
   pub known : v < n
+  pub few-events : n ≤ 1024
   pub few-rules : length ss ≤ 4096
   pub targets-match : length ts ≡ length ss
   pub some : (i : ℕ) × (i < length ts) × (getD ts i 0 ≡ v)

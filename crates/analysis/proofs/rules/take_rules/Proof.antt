@@ -7,7 +7,9 @@ use lib.ListN.{length, getD, length-set}
 use denote.Ref.{now}
 use Rattle.graphs.specs.Graph.{Graph, graphOf, rules, source, target}
 use Rattle.graphs.specs.Limits.{CountsKept}
-use Rattle.analysis.specs.Parts.Rules.{RuleRight}
+use Rattle.integers.proofs.Word.{read-pair}
+use mir.Syntax.{w64}
+use Rattle.analysis.specs.Parts.Rules.{RightRule, RuleRight}
 use Rattle.analysis.proofs.rules.take_rules.Proof.Laws.{Taking, taking-none, taking-more, taking-fits, taking-all, taking-wrong}
 use Rattle.analysis.proofs.rules.take_rules.Statement.{statement}
 use Rattle.analysis.proofs.rules.take_rules.Tie as tie
@@ -33,7 +35,10 @@ module _ (c : tie.In-loop Inv-loop μ-loop) where
 
 module _ (c : tie.Else1 Inv-loop μ-loop) where
   right : RuleRight (c .before .before .before .before .before .before .before .before .before .before .before .before .before .args .bound) (graph (c .before .before .before .before .before .before)) (c .before .before .before .before .before .before .before .loop .i)
-  right = c .before .rule-right .ensures .0 (not-false _ (c .if1 .left))
+  right =
+      read-pair w64 (RightRule (c .before .before .before .before .before .before .before .before .before .before .before .before .before .args .n) (c .before .before .before .before .before .before .before .before .before .before .before .before .before .args .bound) _ _) _ _
+      (c .before .before .before .rule-right-arg .given) (c .before .before .rule-right-arg2 .given)
+      (c .before .rule-right .ensures .0 (not-false _ (c .if1 .left)))
 
   known : (source (graph (c .before .before .before .before .before .before)) (c .before .before .before .before .before .before .before .loop .i) < length (c .before .before .before .before .before .before .before .loop .waiting)) × (target (graph (c .before .before .before .before .before .before)) (c .before .before .before .before .before .before .before .loop .i) < length (c .before .before .before .before .before .before .before .loop .heads)) × (c .before .before .before .before .before .before .before .before .before .before .before .before .before .args .n ≤ 1024)
   known =
@@ -80,7 +85,9 @@ same-length-3 : tie.Need-same-length-3 Inv-loop μ-loop
 same-length-3 c = c .before .before .before .before .before .before .before .loop .inv .3
 
 returns : tie.Need-returns Inv-loop μ-loop
-returns c = taking-wrong _ _ _ _ _ _ (c .before .before .before .before .before .before .before .loop .inv .0) (c .before .before .before .before .before .before .loop-test .taken) (c .before .rule-right .ensures .1 (not-true _ (c .if1 .taken)))
+returns c = taking-wrong _ _ _ _ _ _ (c .before .before .before .before .before .before .before .loop .inv .0) (c .before .before .before .before .before .before .loop-test .taken) 
+    (read-pair w64 (λ d D. RightRule (c .before .before .before .before .before .before .before .before .before .before .before .before .before .args .n) (c .before .before .before .before .before .before .before .before .before .before .before .before .before .args .bound) (source (graph (c .before .before .before .before .before .before)) (c .before .before .before .before .before .before .before .loop .i)) (target (graph (c .before .before .before .before .before .before)) (c .before .before .before .before .before .before .before .loop .i)) d D → ⊥) _ _ (c .before .before .before .rule-right-arg .given) (c .before .before .rule-right-arg2 .given)
+    (c .before .rule-right .ensures .1 (not-true _ (c .if1 .taken))))
 
 mul-nexts : tie.Need-mul-nexts Inv-loop μ-loop
 mul-nexts c = omega (arith, known c)
