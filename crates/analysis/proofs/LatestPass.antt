@@ -79,14 +79,14 @@ module _ (n : ℕ) (ss ts : List ℕ) (ds Ds : List ℤ) (heads nexts order : Li
     pub left : (w : ℕ) → w < n → rank w < k → MHeld g s w (at us w)
     pub turned : (w : ℕ) → w < n → k ≤ rank w → Turned g s rank (at us) (λ x. getD depth x 0) w
 
-  pub pulled-start : (depth : List ℕ) → depth ≡ set depth₀ 0 0 → Pulled n us₀ depth
-  pulled-start depth e =
+  pub pulled-start : Pulled n us₀ depth₀
+  pulled-start =
       record {
         place = omega arith;
         us-room = r .us-room;
-        depth-room = rw (e, length-set) (r .depth-room);
+        depth-room = r .depth-room;
         beyond = refl;
-        root-depth = rw e (getD-set-same depth₀ 0 0 0 (omega (arith, r .depth-room, r .source-known)));
+        root-depth = r .root-depth;
         left = λ w l _. r .held w l;
         turned = λ w l h. absurd (let bad : ⊥ = omega (arith, o .rank-below w l) in bad);
       }

@@ -3,5 +3,7 @@ pub mod Walk
 pub mod Places
 pub mod Placement
 pub mod MPass
-pub mod Reach
+pub mod ReachPass
 pub mod LatestPass
+pub mod Arranging
+pub mod Promises

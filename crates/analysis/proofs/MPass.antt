@@ -5,6 +5,7 @@
 --     least-held              once every rule out of v is passed, v has its m
 --     least-push              rule i is passed: the lesser of what its source had, and m of its target less the least delay
 --     least-over              rules whose target has no path to s change nothing
+--     absent-dead             where absent stands there is no path
 --     pass-begin, pass-walk, pass-rule, pass-done, pass-over, pass-end    the same of all events, turn by turn
 -- Why least-push holds. A path from rule i's source u to s whose first rule is passed has passed it before, or begins with rule i and goes on as a path from
 -- i's target. So the least −(sum of d) over them is the lesser of the least over the former, which u had, and m(target) − d. Paths of other events don't begin
@@ -277,3 +278,10 @@ module _ (n : ℕ) (ss ts : List ℕ) (ds Ds : List ℤ) (heads nexts order : Li
         beyond = p .beyond;
         same-length = p .same-length;
       }
+
+-- where the number for "none" stands there is none: m itself is less
+pub absent-dead :
+    {g : Graph} {order : List ℕ} {rank : ℕ → ℕ} {s v : ℕ} {x : ℤ} → Sized 1001000 g → Order (g .events) (g .sources) (g .targets) order rank →
+    x ≡ absent → MHeld g s v x → Path g v s → ⊥
+absent-dead sized o e (there m) = absurd (let small = m-within sized o m .below in let bad : ⊥ = omega linear in bad)
+absent-dead sized o e (none _ dead) = dead

@@ -44,6 +44,7 @@ fn find_latest(
     ensures { λ _. ⌜ ((ts : List ℕ) → Arranged n (now (sources .entry)) ts (now (heads .entry)) (now (nexts .entry)) (now (order .entry)) → EventGraph 1001000 (graphOf n (now (sources .entry)) ts (now (leasts .entry)) (now (mosts .entry))) → LatestFound (graphOf n (now (sources .entry)) ts (now (leasts .entry)) (now (mosts .entry))) s (now (latest .entry)) (now (latest .exit)) × DepthsFound (graphOf n (now (sources .entry)) ts (now (leasts .entry)) (now (mosts .entry))) (now (depth .exit))) ⌝ }
 {
     find_m(n, sources, leasts, heads, nexts, order, s, latest);
+    depth[0] = 0;
     find_u(n, sources, mosts, heads, nexts, order, latest, depth);
 }
 

@@ -104,7 +104,7 @@ fn settle(
     depth[v] = here.depth;
 }
 
-// U and the depth of each of the n events.
+// U and the depth of each of the n events. The root's depth stands there already.
 pub(crate) fn find_u(
     n: usize,
     sources: &[usize],
@@ -118,7 +118,6 @@ pub(crate) fn find_u(
     requires { ⌜ ((ts : List ℕ) × (ds : List ℤ) × (s : ℕ) × LatestReady n (now sources) ts ds (now mosts) (now heads) (now nexts) (now order) s (now us) (now depth)) ⌝ }
     ensures { λ _. ⌜ ((ts : List ℕ) (ds : List ℤ) (s : ℕ) → LatestReady n (now (sources .entry)) ts ds (now (mosts .entry)) (now (heads .entry)) (now (nexts .entry)) (now (order .entry)) s (now (us .entry)) (now (depth .entry)) → LatestFound (graphOf n (now (sources .entry)) ts ds (now (mosts .entry))) s (now (us .entry)) (now (us .exit)) × DepthsFound (graphOf n (now (sources .entry)) ts ds (now (mosts .entry))) (now (depth .exit))) ⌝ }
 {
-    depth[0] = 0;
     let mut k = n;
     while k > 0 {
         k -= 1;

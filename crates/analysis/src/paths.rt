@@ -9,7 +9,7 @@ ghost use Rattle.integers.specs.Within.{Within};
 ghost use Rattle.sequences.specs.Filled.{Filled};
 ghost use Rattle.graphs.specs.Graph.{graphOf};
 ghost use Rattle.executions.specs.Steps.{Lesser};
-ghost use Rattle.analysis.specs.Parts.Paths.{absent, MReady, PushReady, MPass, MAll};
+ghost use Rattle.analysis.specs.Parts.Paths.{absent, MReady, PassReady, PushReady, MPass, MAll};
 
 pub(crate) const ABSENT: i32 = 2100000000;
 
@@ -63,6 +63,29 @@ fn push(
     }
 }
 
+// Lets each event hand on its m when its turn comes.
+fn push_all(
+    n: usize,
+    sources: &[usize],
+    leasts: &[i64],
+    heads: &[u16],
+    nexts: &[u16],
+    order: &[u16],
+    m: &mut [i32],
+)
+    requires { ⌜ ((ts : List ℕ) × (Ds : List ℤ) × (s : ℕ) × (m₀ : List ℤ) × PassReady n (now sources) ts (now leasts) Ds (now heads) (now nexts) (now order) s m₀ (now m)) ⌝ }
+    ensures { λ _. ⌜ ((ts : List ℕ) (Ds : List ℤ) (s : ℕ) (m₀ : List ℤ) → PassReady n (now (sources .entry)) ts (now (leasts .entry)) Ds (now (heads .entry)) (now (nexts .entry)) (now (order .entry)) s m₀ (now (m .entry)) → MAll (graphOf n (now (sources .entry)) ts (now (leasts .entry)) Ds) s m₀ (now (m .exit))) ⌝ }
+{
+    let mut k = 0;
+    while k < n {
+        let v = order[k] as usize;
+        k += 1;
+        if m[v] != ABSENT {
+            push(sources, leasts, heads, nexts, v, m);
+        }
+    }
+}
+
 // m of each of the n events into `m`. Places beyond keep what they held.
 pub(crate) fn find_m(
     n: usize,
@@ -79,12 +102,5 @@ pub(crate) fn find_m(
 {
     clear(n, m);
     m[s] = 0;
-    let mut k = 0;
-    while k < n {
-        let v = order[k] as usize;
-        if m[v] != ABSENT {
-            push(sources, leasts, heads, nexts, v, m);
-        }
-        k += 1;
-    }
+    push_all(n, sources, leasts, heads, nexts, order, m);
 }

@@ -88,6 +88,7 @@ pub record LatestReady (n : ℕ) (ss ts : List ℕ) (ds Ds : List ℤ) (heads ne
   pub source-known : s < n
   pub us-room : n ≤ length us
   pub depth-room : n ≤ length depth
+  pub root-depth : getD depth 0 0 ≡ 0
   pub held : (v : ℕ) → v < n → MHeld (graphOf n ss ts ds Ds) s v (getD us v (pos 0))
 
 pub record DepthsFound (g : Graph) (depth : List ℕ) : Type 0 where

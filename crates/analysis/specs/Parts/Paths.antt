@@ -6,6 +6,7 @@
 --     Pushed rank k e i    == rule i has been passed, by the same clock as in Placing.antt: its target has rank below k, or rank k and e ≤ i
 --     PushReady … v        == what is asked before the rules into v are gone through
 --     MReady, MPass, MAll  == what is asked before the walk; what holds after k events; and at the end
+--     PassReady            == what is asked once the list has been cleared
 -- Assumes nothing.
 use mathlib.Core.Path.{_≡_}
 use mathlib.Core.Logic.{_⊎_}
@@ -56,6 +57,10 @@ pub record PushReady (n : ℕ) (ss ts : List ℕ) (ds Ds : List ℤ) (heads next
   pub here : getD order k 0 ≡ v
   pub some : getD m v (pos 0) ≡ absent → ⊥
   pub pass : MPass (graphOf n ss ts ds Ds) s (ready .arranged .rank) k 5000 m₀ m
+
+pub record PassReady (n : ℕ) (ss ts : List ℕ) (ds Ds : List ℤ) (heads nexts order : List ℕ) (s : ℕ) (m₀ m : List ℤ) : Type 0 where
+  pub ready : MReady n ss ts ds Ds heads nexts order s m
+  pub pass : MPass (graphOf n ss ts ds Ds) s (ready .arranged .rank) 0 5000 m₀ m
 
 pub record MAll (g : Graph) (s : ℕ) (m₀ m : List ℤ) : Type 0 where
   pub each : (v : ℕ) → v < g .events → MHeld g s v (getD m v (pos 0))

@@ -1,13 +1,16 @@
+-- `settle` meets its contract: it writes down what `pull` finds. Assumes nothing.
 use borrow.Author.Needs.{needs}
+use mathlib.Core.Path.{_≡_, refl}
+use lib.IntN.{ℤ, pos}
+use mir.Syntax.{w32}
+use mir.Val.{toZ, ofZ}
+use mir.ValLaws.{toZ-ofZ}
+use lib.ListN.{getD}
 use Rattle.analysis.proofs.latest.settle.Statement.{statement}
 use Rattle.analysis.proofs.latest.settle.Tie as tie
-use Rattle.analysis.proofs.latest.settle.Reads as reads
-use Rattle.analysis.proofs.latest.settle.Lts as lts
-use Rattle.analysis.proofs.latest.pull.Reads as pull-reads
-use Rattle.analysis.proofs.paths.lesser.Reads as lesser-reads
 
 pull-requires : tie.Need-pull-requires
-pull-requires c κs = search needs
+pull-requires c κs = c .before .before .before .before .before .before .pre .0
 
 mul-lesser : tie.Need-mul-lesser
 mul-lesser c = search needs
@@ -37,7 +40,20 @@ same-length-2 : tie.Need-same-length-2
 same-length-2 c = search needs
 
 returns : tie.Need-returns
-returns c = ?
+returns c =
+    λ n ts a.
+    let held : toZ w32 (ofZ w32 (c .lesser .result)) ≡ c .lesser .result = toZ-ofZ w32 (c .lesser .result) (record { sfits = c .lesser .ok }) in
+    let told : toZ w32 (ofZ w32 (c .before .before .before .pull .result .time)) ≡ c .before .before .before .pull .result .time = toZ-ofZ w32 (c .before .before .before .pull .result .time) (record { sfits = search (c .before .struct-told .given) }) in
+    let was : toZ w32 (ofZ w32 (getD (c .before .before .before .before .before .before .before .before .before .before .args .us .now) (c .before .before .before .before .before .before .before .before .before .before .args .v) (pos 0))) ≡ getD (c .before .before .before .before .before .before .before .before .before .before .args .us .now) (c .before .before .before .before .before .before .before .before .before .before .args .v) (pos 0) = toZ-ofZ w32 (getD (c .before .before .before .before .before .before .before .before .before .before .args .us .now) (c .before .before .before .before .before .before .before .before .before .before .args .v) (pos 0)) (record { sfits = c .before .before .lesser-arg .given }) in
+    record {
+      time = c .before .before .before .pull .result .time;
+      deep = c .before .before .before .pull .result .depth;
+      latest = toZ w32 (ofZ w32 (c .lesser .result));
+      greatest = c .before .before .before .pull .ensures n ts a;
+      lesser = rw held (rw (told, was) at (c .lesser .ensures));
+      us-set = refl;
+      depth-set = refl;
+    }
 
 pub settle-spec : {M : Type 1} → statement M
 settle-spec =

@@ -1,9 +1,9 @@
+-- `analyse_small` meets its contract: its lists are long enough, and hold zeros. Assumes nothing.
 use borrow.Author.Needs.{needs}
+use native.Mathlib.Omega.{arith}
+use Rattle.analysis.proofs.Arranging.{zeros}
 use Rattle.analysis.proofs.lists.analyse_small.Statement.{statement}
 use Rattle.analysis.proofs.lists.analyse_small.Tie as tie
-use Rattle.analysis.proofs.lists.analyse_small.Reads as reads
-use Rattle.analysis.proofs.lists.analyse_small.Lts as lts
-use Rattle.analysis.proofs.arranged.analyse_on.Reads as analyse-on-reads
 
 slice-aggregate-analyse-on : tie.Need-slice-aggregate-analyse-on
 slice-aggregate-analyse-on c = search needs
@@ -21,7 +21,8 @@ slice-aggregate-analyse-on-5 : tie.Need-slice-aggregate-analyse-on-5
 slice-aggregate-analyse-on-5 c = search needs
 
 analyse-on-requires : tie.Need-analyse-on-requires
-analyse-on-requires c κs = ?
+analyse-on-requires c κs =
+    (c .before .before .before .before .before .before .before .before .pre .0, record { heads-zero = zeros 64 (c .before .before .before .before .before .before .before .before .pre .1 .0); waiting-zero = zeros 64 (c .before .before .before .before .before .before .before .before .pre .1 .0); nexts-room = c .before .before .before .before .before .before .before .before .pre .1 .1; order-room = c .before .before .before .before .before .before .before .before .pre .1 .0; depth-room = c .before .before .before .before .before .before .before .before .pre .1 .0 })
 
 same-length : tie.Need-same-length
 same-length c = search needs

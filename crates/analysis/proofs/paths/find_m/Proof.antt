@@ -1,79 +1,44 @@
+-- `find_m` meets its contract: what `clear` and `push_all` promise, put together. Assumes nothing.
+use mathlib.Core.Path.{_≡_, refl, sym, _∙_}
+use mathlib.Core.List.{List}
+use Prim.Native.Nat.{ℕ, _<_, _≤_}
+use native.Mathlib.Omega.{arith}
+use lib.IntN.{ℤ, pos}
+use lib.ListN.{length, set, length-set}
+use Rattle.analysis.specs.Parts.Paths.{MReady, PassReady}
+use Rattle.analysis.proofs.MPass.{pass-begin}
 use Rattle.analysis.proofs.paths.find_m.Statement.{statement}
 use Rattle.analysis.proofs.paths.find_m.Tie as tie
-use Rattle.analysis.proofs.paths.find_m.Reads as reads
-use Rattle.analysis.proofs.paths.find_m.Lts as lts
-use Rattle.analysis.proofs.paths.clear.Reads as clear-reads
-use Rattle.analysis.proofs.paths.push.Reads as push-reads
 
-abbrev Inv-loop : tie.InvT-loop
-Inv-loop n sources leasts heads nexts order s m₀ k₀ m k = ?
+begun :
+    (c : tie.After-clear) (ts : List ℕ) (Ds : List ℤ) →
+    MReady (c .before .before .before .before .before .before .args .n) (c .before .before .before .before .before .before .args .sources .now) ts (c .before .before .before .before .before .before .args .leasts .now) Ds (c .before .before .before .before .before .before .args .heads .now) (c .before .before .before .before .before .before .args .nexts .now) (c .before .before .before .before .before .before .args .order .now) (c .before .before .before .before .before .before .args .s) (c .before .before .before .before .before .before .args .m .now) →
+    PassReady (c .before .before .before .before .before .before .args .n) (c .before .before .before .before .before .before .args .sources .now) ts (c .before .before .before .before .before .before .args .leasts .now) Ds (c .before .before .before .before .before .before .args .heads .now) (c .before .before .before .before .before .before .args .nexts .now) (c .before .before .before .before .before .before .args .order .now) (c .before .before .before .before .before .before .args .s) (c .before .before .before .before .before .before .args .m .now) (set (c .clear .last .1 .0) (c .before .before .before .before .before .before .args .s) (pos 0))
+begun c ts Ds r =
+    let same : length (c .clear .last .1 .0) ≡ length (c .before .before .before .before .before .before .args .m .now) = c .clear .kept .1 .0 in
+    record {
+      ready = record { arranged = r .arranged; sized = r .sized; source-known = r .source-known; room = rw (length-set, same) (r .room) };
+      pass = pass-begin _ _ ts _ Ds _ _ _ _ (r .arranged) (r .sized) _ _ (r .source-known) (omega (arith, r .room)) (c .clear .ensures .each) (c .clear .ensures .beyond) same;
+    }
 
-abbrev μ-loop : tie.MeasureT-loop
-μ-loop n sources leasts heads nexts order s m₀ k₀ m k = ?
+clear-requires : tie.Need-clear-requires
+clear-requires c κs = let (ts, Ds, r) = c .before .before .before .before .before .pre in r .room
 
-clear-requires : tie.Need-clear-requires Inv-loop μ-loop
-clear-requires c κs = ?
+mul-m : tie.Need-mul-m
+mul-m c = let (ts, Ds, r) = c .before .before .before .before .before .before .before .pre in omega (arith, r .source-known, r .arranged .kept .few-events)
 
-mul-m : tie.Need-mul-m Inv-loop μ-loop
-mul-m c = ?
+slice-set-of-m : tie.Need-slice-set-of-m
+slice-set-of-m c = let (ts, Ds, r) = c .before .before .before .before .before .before .before .pre in omega (arith, r .source-known, r .room, c .before .clear .kept .1 .0)
 
-slice-set-of-m : tie.Need-slice-set-of-m Inv-loop μ-loop
-slice-set-of-m c = ?
+push-all-requires : tie.Need-push-all-requires
+push-all-requires c κs = let (ts, Ds, r) = c .before .before .before .before .before .before .before .before .pre in (ts, Ds, _, _, begun (c .before .before) ts Ds r)
 
-loop-holds : tie.Need-loop-holds Inv-loop μ-loop
-loop-holds c = ?
+same-length : tie.Need-same-length
+same-length c = c .before .push-all .kept .1 .1 .1 .1 .1 .1 .0 ∙ (length-set (c .before .before .before .before .clear .last .1 .0) (c .before .before .before .before .before .before .before .before .before .before .args .s) (pos 0) ∙ c .before .before .before .before .clear .kept .1 .0)
 
-mul-v : tie.Need-mul-v Inv-loop μ-loop
-mul-v c = ?
-
-shared-slice-read-v : tie.Need-shared-slice-read-v Inv-loop μ-loop
-shared-slice-read-v c = ?
-
-cast-v : tie.Need-cast-v Inv-loop μ-loop
-cast-v c = ?
-
-mul-if1 : tie.Need-mul-if1 Inv-loop μ-loop
-mul-if1 c = ?
-
-slice-copy-out-if1 : tie.Need-slice-copy-out-if1 Inv-loop μ-loop
-slice-copy-out-if1 c = ?
-
-push-requires : tie.Need-push-requires Inv-loop μ-loop
-push-requires c κs = ?
-
-add-k : tie.Need-add-k Inv-loop μ-loop
-add-k c = ?
-
-loop-less : tie.Need-loop-less Inv-loop μ-loop
-loop-less c = ?
-
-loop-again : tie.Need-loop-again Inv-loop μ-loop
-loop-again c = ?
-
-same-length : tie.Need-same-length Inv-loop μ-loop
-same-length c = ?
-
-returns : tie.Need-returns Inv-loop μ-loop
-returns c = ?
+returns : tie.Need-returns
+returns c = λ ts Ds r. c .before .push-all .ensures ts Ds _ _ (begun (c .before .before .before .before) ts Ds r)
 
 pub find-m-spec : {M : Type 1} → statement M
 find-m-spec =
-    tie.close
-    (tie.spec
-    Inv-loop
-    μ-loop
-    clear-requires
-    mul-m
-    slice-set-of-m
-    loop-holds
-    mul-v
-    shared-slice-read-v
-    cast-v
-    mul-if1
-    slice-copy-out-if1
-    push-requires
-    add-k
-    loop-less
-    loop-again
-    same-length
-    returns)
+    tie.close (tie.spec clear-requires mul-m slice-set-of-m push-all-requires same-length returns)

@@ -33,17 +33,17 @@ module _ (n : ℕ) (ss ts heads nexts order : List ℕ) (a : Arranged n ss ts he
     -- k rules back are enough
     reach : Led n heads → (k v : ℕ) → v < n → n ≤ a .rank v + k → Path g 0 v
     reach led zero v l h = absurd (let bad : ⊥ = omega (arith, a .ordered .rank-below v l) in bad)
-    reach led (suc k) v l h = by (ℕ-discrete v 0)
+    reach led (suc k) v l h = by (λ u m j. reach led k u m j) (ℕ-discrete v 0)
       where
-        by : Dec (v ≡ 0) → Path g 0 v
-        by (yes e) = subst (λ (x : ℕ). Path g 0 x) (sym e) stay
-        by (no other) =
+        by : ((u : ℕ) → u < n → n ≤ a .rank u + k → Path g 0 u) → Dec (v ≡ 0) → Path g 0 v
+        by back (yes e) = subst (λ (x : ℕ). Path g 0 x) (sym e) stay
+        by back (no other) =
             let its : Last ts v (length ts) (getD heads v 0) = a .chains .chained .heads-last v (omega (arith, a .chains .heads-room)) in
             let some : 0 < getD heads v 0 = led v (omega arith) l in
             let into : getD ts (getD heads v 0 - 1) 0 ≡ v = its .hit (getD heads v 0 - 1) (omega arith) in
             let is-rule : getD heads v 0 - 1 < length ss = omega (arith, its .within, a .kept .targets-match) in
             along
-            (reach led k (getD ss (getD heads v 0 - 1) 0) (a .kept .sources-below .below (getD heads v 0 - 1) is-rule) (omega (arith, source-later (getD heads v 0 - 1) v is-rule into)))
+            (back (getD ss (getD heads v 0 - 1) 0) (a .kept .sources-below .below (getD heads v 0 - 1) is-rule) (omega (arith, source-later (getD heads v 0 - 1) v is-rule into)))
             (getD heads v 0 - 1) is-rule refl into
 
     pub led-reachable : Led n heads → (v : ℕ) → v < n → Reachable g v
@@ -107,7 +107,7 @@ module _ (n : ℕ) (ss ts heads nexts order : List ℕ) (a : Arranged n ss ts he
               reaches = λ _. along (source-marked ds Ds i is-rule into .reaches is-marked) i is-rule refl into;
               no-path = λ h. absurd (let bad : ⊥ = omega (arith, at-v) in bad);
             }
-        here ds Ds (unmarked other zero none) =
+        here ds Ds (unmarked other is-zero never) =
             record {
               reaches = λ h. absurd (let bad : ⊥ = omega (arith, at-v) in bad);
               no-path = λ _ p. by p (last-rule p);
@@ -115,7 +115,7 @@ module _ (n : ℕ) (ss ts heads nexts order : List ℕ) (a : Arranged n ss ts he
           where
             by : (p : Path (graphOf n ss ts ds Ds) 0 (getD order (k - 1) 0)) → LastRule (graphOf n ss ts ds Ds) 0 (getD order (k - 1) 0) p → ⊥
             by p (no-last same few zero-sum) = other (sym same)
-            by p (last i l into q one-more its-sum) = source-marked ds Ds i l into .no-path (none .none refl i (omega (arith, a .kept .targets-match)) into) q
+            by p (last i l into q one-more its-sum) = source-marked ds Ds i l into .no-path (never .none refl i (omega (arith, a .kept .targets-match)) into) q
 
   pub marks-end : (marks : List ℕ) → MarksFrom marks 0 → AllMarked n ss ts marks
   marks-end marks m ds Ds = back-all n ss ts order (a .rank) (a .ordered) (Marked (graphOf n ss ts ds Ds) marks) (m .each ds Ds)
