@@ -5,7 +5,7 @@ use Prim.Native.Nat.{ℕ, _<_}
 use native.Mathlib.Omega.{arith}
 use lib.ListN.{length}
 use denote.Ref.{now}
-use borrow.Author.Tests.{not-true, not-false}
+use borrow.Author.Tests.{leb-true, not-true, not-false}
 use Rattle.analysis.proofs.Promises.{analysed-short, analysed-input-refused}
 use Rattle.analysis.proofs.analyse.Statement.{statement}
 use Rattle.analysis.proofs.analyse.Tie as tie
@@ -34,7 +34,7 @@ returns-2 c =
 analyse-small-requires : tie.Need-analyse-small-requires
 analyse-small-requires c κs =
     let (counts, s, t) = c .before .before .before .before .askable .ensures .0 (not-false _ (c .before .before .before .if2 .left)) in
-    ((counts, s, t, c .before .before .before .before .before .if1 .left), (c .before .before .if3 .taken, omega (arith, c .before .if4 .taken)))
+    ((counts, s, t, c .before .before .before .before .before .if1 .left), (c .before .before .if3 .taken, leb-true _ _ (c .before .if4 .taken)))
 
 same-length : tie.Need-same-length
 same-length c = search needs
