@@ -70,7 +70,18 @@ fn analyse_arranged(
     if unreached < n {
         return refused(6, unreached);
     }
-    find_latest(n, sources, leasts, mosts, heads, nexts, order, s, depth, latest);
+    find_latest(
+        n,
+        sources,
+        leasts,
+        mosts,
+        heads,
+        nexts,
+        order,
+        s,
+        depth,
+        latest,
+    );
     Analysis {
         refusal: 0,
         place: 0,
@@ -129,7 +140,17 @@ pub(crate) fn analyse_on(
     ensures { λ r. ⌜ Analysed limit (graphOf n (now (sources .entry)) (now (targets .entry)) (now (leasts .entry)) (now (mosts .entry))) s t (now (latest .entry)) (now (latest .exit)) r ⌝ }
 {
     let bound = delay_bound(limit);
-    if !take_rules(n, sources, targets, leasts, mosts, bound, heads, nexts, waiting) {
+    if !take_rules(
+        n,
+        sources,
+        targets,
+        leasts,
+        mosts,
+        bound,
+        heads,
+        nexts,
+        waiting,
+    ) {
         return input_refused(n, sources, targets, leasts, mosts, limit, s, t);
     }
     if !order_events(n, sources, heads, nexts, waiting, order) {

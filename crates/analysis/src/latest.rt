@@ -46,7 +46,7 @@ fn depth_by(sources: &[usize], depth: &[u16], i: usize) -> u16
 fn greater(x: i32, y: i32) -> i32
     ensures { λ r. ⌜ Greater x y r ⌝ }
 {
-    if x < y { y } else { x }
+    if y < x { x } else { y }
 }
 
 // The greater of two depths.
@@ -79,10 +79,7 @@ fn pull(
         deep = deeper(deep, depth_by(sources, depth, i));
         e = nexts[i] as usize;
     }
-    Arrival {
-        time,
-        depth: deep,
-    }
+    Arrival { time, depth: deep }
 }
 
 // The turn of event `v`: its U and its depth are written down.

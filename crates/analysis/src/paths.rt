@@ -41,14 +41,7 @@ fn clear(n: usize, m: &mut [i32])
 }
 
 // Hands m(v) on along the rules into `v`: the source of each has a path of that m less the least delay.
-fn push(
-    sources: &[usize],
-    leasts: &[i64],
-    heads: &[u16],
-    nexts: &[u16],
-    v: usize,
-    m: &mut [i32],
-)
+fn push(sources: &[usize], leasts: &[i64], heads: &[u16], nexts: &[u16], v: usize, m: &mut [i32])
     requires { ⌜ ((n : ℕ) × (ts : List ℕ) × (Ds : List ℤ) × (order : List ℕ) × (s : ℕ) × (k : ℕ) × (m₀ : List ℤ) × PushReady n (now sources) ts (now leasts) Ds (now heads) (now nexts) order s k v m₀ (now m)) ⌝ }
     ensures { λ _. ⌜ ((n : ℕ) (ts : List ℕ) (Ds : List ℤ) (order : List ℕ) (s k : ℕ) (m₀ : List ℤ) (r : PushReady n (now (sources .entry)) ts (now (leasts .entry)) Ds (now (heads .entry)) (now (nexts .entry)) order s k v m₀ (now (m .entry))) → MPass (graphOf n (now (sources .entry)) ts (now (leasts .entry)) Ds) s (r .ready .arranged .rank) k 0 m₀ (now (m .exit))) ⌝ }
 {

@@ -29,14 +29,7 @@ fn delays_right(bound: usize, least: i64, most: i64) -> bool
 }
 
 // Whether both ends are events below n, and the delays are right.
-fn rule_right(
-    n: usize,
-    bound: usize,
-    source: usize,
-    target: usize,
-    least: i64,
-    most: i64,
-) -> bool
+fn rule_right(n: usize, bound: usize, source: usize, target: usize, least: i64, most: i64) -> bool
     requires { ⌜ bound ≤ 1001000 ⌝ }
     ensures { λ r. ⌜ (r ≡ true → RightRule n bound source target least most) ⌝ }
     ensures { λ r. ⌜ (r ≡ false → RightRule n bound source target least most → ⊥) ⌝ }

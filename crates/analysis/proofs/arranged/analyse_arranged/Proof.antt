@@ -33,11 +33,11 @@ module _ (c : tie.Else1) where
 
 long : (c : tie.After-find-latest) → (c .before .before .before .before .before .before .before .before .before .before .before .before .before .args .n ≤ length (c .find-latest .last .1 .1 .1 .1 .1 .1 .1 .1 .0)) × (c .before .before .before .before .before .before .before .before .before .before .before .before .before .args .n ≤ 1024) × (c .before .before .before .before .before .before .before .before .before .before .before .before .before .args .s < c .before .before .before .before .before .before .before .before .before .before .before .before .before .args .n) × (c .before .before .before .before .before .before .before .before .before .before .before .before .before .args .t < c .before .before .before .before .before .before .before .before .before .before .before .before .before .args .n)
 long c = (
-      omega (arith, c .find-latest .kept .1 .1 .1 .1 .1 .1 .1 .1 .0, depth-long (c .before .before .before)),
-      c .before .before .before .before .before .before .before .before .before .before .before .before .before .pre .0 .1 .kept .few-events,
-      c .before .before .before .before .before .before .before .before .before .before .before .before .before .pre .1 .0,
-      c .before .before .before .before .before .before .before .before .before .before .before .before .before .pre .1 .1,
-    )
+  omega (arith, c .find-latest .kept .1 .1 .1 .1 .1 .1 .1 .1 .0, depth-long (c .before .before .before)),
+  c .before .before .before .before .before .before .before .before .before .before .before .before .before .pre .0 .1 .kept .few-events,
+  c .before .before .before .before .before .before .before .before .before .before .before .before .before .pre .1 .0,
+  c .before .before .before .before .before .before .before .before .before .before .before .before .before .pre .1 .1,
+)
 
 lowest-unreached-requires : tie.Need-lowest-unreached-requires
 lowest-unreached-requires c κs = let (ts, a, sized) = c .before .before .before .before .before .before .pre .0 in ((ts, a), c .before .before .before .before .before .before .pre .1 .2)

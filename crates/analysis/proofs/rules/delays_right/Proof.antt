@@ -54,14 +54,14 @@ too-high b d D h = (λ e. absurd (true≢false (sym e)), λ e r. let none : ⊥ 
 -- −b ≤ d and D ≤ b: with d ≤ D both lie within b
 in-range : (b : ℕ) (d D : ℤ) → ltZ d (negℤ (pos b)) ≡ false → ltZ (pos b) D ≡ false → Says b d D (leZ d D)
 in-range b d D low high = (
-      λ e.
-          record {
-            least-within = record { above = omega linear; below = omega linear };
-            most-within = record { above = omega linear; below = omega linear };
-            ordered = omega linear;
-          },
-      λ e r. let none : ⊥ = omega (linear, r .ordered) in none,
-    )
+  λ e.
+      record {
+        least-within = record { above = omega linear; below = omega linear };
+        most-within = record { above = omega linear; below = omega linear };
+        ordered = omega linear;
+      },
+  λ e r. let none : ⊥ = omega (linear, r .ordered) in none,
+)
 
 cast-high : tie.Need-cast-high
 cast-high c = search needs

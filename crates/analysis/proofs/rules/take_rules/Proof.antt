@@ -85,7 +85,7 @@ same-length-3 : tie.Need-same-length-3 Inv-loop μ-loop
 same-length-3 c = c .before .before .before .before .before .before .before .loop .inv .3
 
 returns : tie.Need-returns Inv-loop μ-loop
-returns c = taking-wrong _ _ _ _ _ _ (c .before .before .before .before .before .before .before .loop .inv .0) (c .before .before .before .before .before .before .loop-test .taken) 
+returns c = taking-wrong _ _ _ _ _ _ (c .before .before .before .before .before .before .before .loop .inv .0) (c .before .before .before .before .before .before .loop-test .taken)
     (read-pair w64 (λ d D. RightRule (c .before .before .before .before .before .before .before .before .before .before .before .before .before .args .n) (c .before .before .before .before .before .before .before .before .before .before .before .before .before .args .bound) (source (graph (c .before .before .before .before .before .before)) (c .before .before .before .before .before .before .before .loop .i)) (target (graph (c .before .before .before .before .before .before)) (c .before .before .before .before .before .before .before .loop .i)) d D → ⊥) _ _ (c .before .before .before .rule-right-arg .given) (c .before .before .rule-right-arg2 .given)
     (c .before .rule-right .ensures .1 (not-true _ (c .if1 .taken))))
 
