@@ -8,28 +8,28 @@
 -- The size of U: m takes at most 1024 delays, and along a rule at most one delay comes on top, while the rank falls by one at least.
 -- Where there is no m(v), the number that stands for it is greater than every arrival: so the lesser of the two is the arrival. Assumes nothing.
 use mathlib.Core.Path.{_≡_, refl, sym, ap, subst, _∙_}
-use mathlib.Core.Logic.{⊎-elim, inl, inr}
+use mathlib.Core.Logic.{⊎-elim}
 use mathlib.Core.List.{List}
 use Prim.Native.Nat.{ℕ, suc, _+_, _-_, _*_, _<_, _≤_, zero-le}
 use native.Mathlib.Omega.{arith}
 use lib.IntN.{ℤ, pos, _+ℤ_}
 use lib.Signed.{_≤ℤ_}
-use lib.ListN.{length, getD, drop, set, length-set}
+use lib.ListN.{length, getD, drop, length-set}
 use lib.Seq.{getD-set-same, getD-set-other, drop-set-lt}
 use Rattle.integers.specs.Within.{Within}
 use Rattle.integers.proofs.Integer.{linear}
 use Rattle.integers.proofs.Word.{within-sum, within-wider}
 use Rattle.graphs.specs.Graph.{Graph, graphOf, rules, source, target, most, Greatest}
 use Rattle.graphs.specs.Path.{Path, stay, steps, Depth}
-use Rattle.graphs.specs.Limits.{EventGraph, CountsKept}
+use Rattle.graphs.specs.Limits.{CountsKept}
 use Rattle.graphs.proofs.Paths.{along, steps-along, LastRule, no-last, last, last-rule, acyclic-stays}
 use Rattle.graphs.proofs.Limits.{sound-of}
 use Rattle.graphs.proofs.Greatest.{greatest-same, incoming}
-use Rattle.executions.specs.Steps.{M, Lesser, Capped, with-m, without-m, UOf, U}
+use Rattle.executions.specs.Steps.{M, Capped, with-m, without-m, UOf}
 use Rattle.analysis.specs.Parts.Order.{Order}
 use Rattle.analysis.specs.Parts.Paths.{absent, MHeld, there, none}
 use Rattle.analysis.specs.Parts.Latest.{Addable, Deepenable, Arrivals, Settled, UAt, at-root, at-other, LatestFound, LatestReady, DepthsFound}
-use Rattle.analysis.proofs.Places.{back-more, other-rank}
+use Rattle.analysis.proofs.Places.{back-more}
 use Rattle.analysis.proofs.MPass.{m-within}
 
 abbrev at : List ℤ → ℕ → ℤ

@@ -32,7 +32,7 @@ use Rattle.executions.specs.Steps.{M, Lesser}
 use Rattle.analysis.specs.Parts.Chains.{Last}
 use Rattle.analysis.specs.Parts.Order.{Order}
 use Rattle.analysis.specs.Parts.Reach.{Arranged}
-use Rattle.analysis.specs.Parts.Paths.{absent, Via, LeastBy, MHeld, there, none, Pushed, MReady, MPass, MAll}
+use Rattle.analysis.specs.Parts.Paths.{absent, Via, LeastBy, MHeld, there, none, Pushed, MPass, MAll}
 
 -- ---- ranks from the sinks, as ranks from the root
 

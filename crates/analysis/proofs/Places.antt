@@ -1,9 +1,8 @@
--- Going through the events of an order, place by place: what holds of the events passed.
+-- Going through the events of an order, from the last place to the first: what holds of the events passed.
 --     at-rank       the event at place k is the one of rank k
 --     other-rank    an event of another rank is another event
---     on-more     once the event at place k is served, Q′ holds of every event of rank below k + 1
---     on-all      at the end it holds of every event
---     back-more, back-all   the same for going back, from the last place to the first
+--     back-more     once the event at place k has had its turn, Q′ holds of every event of rank k or more
+--     back-all      at the end it holds of every event
 -- Assumes nothing.
 use mathlib.Core.Path.{_≡_, ap, subst, _∙_}
 use mathlib.Core.List.{List}
@@ -15,40 +14,26 @@ use Rattle.analysis.specs.Parts.Order.{Order}
 
 module _ (n : ℕ) (ss ts order : List ℕ) (rank : ℕ → ℕ) (o : Order n ss ts order rank) where
   -- the event at place k is the one of rank k
-  pub at-rank : (k w : ℕ) → w < n → rank w ≡ k → getD order k 0 ≡ w
+  at-rank : (k w : ℕ) → w < n → rank w ≡ k → getD order k 0 ≡ w
   at-rank k w l e = subst (λ (x : ℕ). getD order x 0 ≡ w) e (o .order-rank w l)
 
   -- an event of another rank is another event
-  pub other-rank : (k w : ℕ) → k < n → (rank w ≡ k → ⊥) → w ≡ getD order k 0 → ⊥
+  other-rank : (k w : ℕ) → k < n → (rank w ≡ k → ⊥) → w ≡ getD order k 0 → ⊥
   other-rank k w l differ e = differ (ap rank e ∙ o .rank-order k l)
 
-  module _ (Q Q′ : ℕ → Type 0) (k : ℕ) (here : Q′ (getD order k 0)) where
-    pub on-more :
-        k < n →
-        ((w : ℕ) → w < n → rank w < k → (w ≡ getD order k 0 → ⊥) → Q w → Q′ w) →
-        ((w : ℕ) → w < n → rank w < k → Q w) →
-        (w : ℕ) → w < n → rank w < k + 1 → Q′ w
-    on-more below kept before w l h = by (decLt (rank w) k)
-      where
-        by : Dec (rank w < k) → Q′ w
-        by (yes a) = kept w l a (other-rank k w below (λ e. let bad : ⊥ = omega arith in bad)) (before w l a)
-        by (no a) = subst Q′ (at-rank k w l (let same : rank w ≡ k = omega arith in same)) here
-
-    pub back-more :
-        k < n →
-        ((w : ℕ) → w < n → k + 1 ≤ rank w → (w ≡ getD order k 0 → ⊥) → Q w → Q′ w) →
-        ((w : ℕ) → w < n → k + 1 ≤ rank w → Q w) →
-        (w : ℕ) → w < n → k ≤ rank w → Q′ w
-    back-more below kept after w l h = by (decLt k (rank w))
-      where
-        by : Dec (k < rank w) → Q′ w
-        by (yes a) =
-            let past : k + 1 ≤ rank w = omega arith in
-            kept w l past (other-rank k w below (λ e. let bad : ⊥ = omega arith in bad)) (after w l past)
-        by (no a) = subst Q′ (at-rank k w l (let same : rank w ≡ k = omega arith in same)) here
-
-  pub on-all : (Q : ℕ → Type 0) → ((w : ℕ) → w < n → rank w < n → Q w) → (w : ℕ) → w < n → Q w
-  on-all Q before w l = before w l (o .rank-below w l)
+  pub back-more :
+      (Q Q′ : ℕ → Type 0) (k : ℕ) → Q′ (getD order k 0) →
+      k < n →
+      ((w : ℕ) → w < n → k + 1 ≤ rank w → (w ≡ getD order k 0 → ⊥) → Q w → Q′ w) →
+      ((w : ℕ) → w < n → k + 1 ≤ rank w → Q w) →
+      (w : ℕ) → w < n → k ≤ rank w → Q′ w
+  back-more Q Q′ k here below kept after w l h = by (decLt k (rank w))
+    where
+      by : Dec (k < rank w) → Q′ w
+      by (yes a) =
+          let past : k + 1 ≤ rank w = omega arith in
+          kept w l past (other-rank k w below (λ e. let bad : ⊥ = omega arith in bad)) (after w l past)
+      by (no a) = subst Q′ (at-rank k w l (let same : rank w ≡ k = omega arith in same)) here
 
   pub back-all : (Q : ℕ → Type 0) → ((w : ℕ) → w < n → 0 ≤ rank w → Q w) → (w : ℕ) → w < n → Q w
   back-all Q after w l = after w l zero-le

@@ -25,7 +25,7 @@ use Rattle.executions.proofs.Unique.{u-unique}
 use Rattle.refusals.specs.Question.{delayLimit}
 use Rattle.refusals.proofs.Question.{QuestionKept, kept-none, question-kept}
 use Rattle.analysis.specs.declared.Analysis.{Analysis}
-use Rattle.analysis.specs.Promise.{AnalysisVerdict, AnalysisFound, Analysed}
+use Rattle.analysis.specs.Promise.{AnalysisVerdict, Analysed}
 use Rattle.analysis.specs.Parts.Arranged.{PathsAnalysed, InputRefused}
 use Rattle.analysis.proofs.Arranging.{Refused}
 

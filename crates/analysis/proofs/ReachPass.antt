@@ -6,7 +6,6 @@
 -- Why led-reachable holds. From an event that isn't the root one goes back along a rule, to an event that comes later in the order; as there are only n places,
 -- this ends, and it can end at the root alone. Assumes nothing.
 use mathlib.Core.Path.{_≡_, refl, sym, ap, subst, _∙_}
-use mathlib.Core.Bool.{true, false}
 use mathlib.Core.List.{List}
 use Prim.Native.Nat.{ℕ, zero, suc, _+_, _-_, _<_, _≤_}
 use native.Mathlib.Decide.{ℕ-discrete}
@@ -15,11 +14,11 @@ use lib.IntN.{ℤ}
 use lib.ListN.{length, getD, set, length-set}
 use lib.Seq.{getD-set-same, getD-set-other}
 use Rattle.verdicts.specs.Verdict.{LowestOr}
-use Rattle.graphs.specs.Graph.{Graph, graphOf, source, target}
+use Rattle.graphs.specs.Graph.{Graph, graphOf}
 use Rattle.graphs.specs.Path.{Path, stay, Reachable}
 use Rattle.graphs.proofs.Paths.{along, LastRule, no-last, last, last-rule}
 use Rattle.analysis.specs.Parts.Chains.{Last}
-use Rattle.analysis.specs.Parts.Reach.{Arranged, Led, Marked, MarkReady, SourceMarked, MarkOf, at-root, marked, unmarked, AllMarked}
+use Rattle.analysis.specs.Parts.Reach.{Arranged, Led, Marked, MarkReady, MarkOf, at-root, marked, unmarked, AllMarked}
 use Rattle.analysis.proofs.Places.{back-more, back-all}
 
 module _ (n : ℕ) (ss ts heads nexts order : List ℕ) (a : Arranged n ss ts heads nexts order) where

@@ -5,12 +5,9 @@
 ghost use mathlib.Core.Path.{_≡_};
 ghost use mathlib.Core.List.{List};
 ghost use Prim.Native.Nat.{ℕ, _<_, _≤_};
-ghost use lib.IntN.{ℤ};
 ghost use lib.ListN.{length};
-ghost use Rattle.verdicts.specs.Verdict.{FirstOf};
 ghost use Rattle.graphs.specs.Graph.{graphOf};
 ghost use Rattle.graphs.specs.Limits.{CountsKept, Sized, EventGraph};
-ghost use Rattle.graphs.specs.Refusal.{questionChecksTo};
 ghost use Rattle.refusals.specs.Question.{delayLimit};
 ghost use Rattle.analysis.specs.Promise.{Analysed};
 ghost use Rattle.analysis.specs.Parts.Reach.{Arranged};

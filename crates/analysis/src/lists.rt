@@ -1,5 +1,4 @@
 // The working lists. A small graph has small ones, which take less time to clear.
-ghost use mathlib.Core.Path.{_≡_};
 ghost use Prim.Native.Nat.{_<_, _≤_};
 ghost use lib.ListN.{length};
 ghost use Rattle.graphs.specs.Graph.{graphOf};

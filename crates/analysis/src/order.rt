@@ -2,8 +2,7 @@
 // proportion to the events and the rules.
 ghost use mathlib.Core.Path.{_≡_};
 ghost use mathlib.Core.List.{List};
-ghost use Prim.Native.Nat.{ℕ, _+_, _<_, _≤_};
-ghost use lib.ListN.{length};
+ghost use Prim.Native.Nat.{ℕ, _+_, _<_};
 ghost use Rattle.analysis.specs.Parts.Order.{Ordered};
 ghost use Rattle.analysis.specs.Parts.Placing.{FirstReady, Serving, ServeReady, OrderReady};
 

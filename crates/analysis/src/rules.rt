@@ -5,7 +5,7 @@
 //     delays_right    that of its delays
 ghost use mathlib.Core.Path.{_≡_};
 ghost use mathlib.Core.Bool.{true, false};
-ghost use Prim.Native.Nat.{ℕ, _≤_};
+ghost use Prim.Native.Nat.{_≤_};
 ghost use lib.ListN.{length};
 ghost use Rattle.graphs.specs.Graph.{graphOf};
 ghost use Rattle.graphs.specs.Limits.{CountsKept};

@@ -2,8 +2,8 @@
 --     forward-closed-cycle   if some events are left, and each of them is the source of a rule whose target is left too, the graph has a cycle
 -- From a left event one goes on along a rule to a left event, and so on: after n rules the path is long enough to meet an event twice. Left events exist, so no
 -- more is asked of the other rules. Assumes nothing.
-use mathlib.Core.Path.{_≡_, refl, subst}
-use Prim.Native.Nat.{ℕ, zero, suc, _≤_, _<_}
+use mathlib.Core.Path.{_≡_, refl}
+use Prim.Native.Nat.{ℕ, zero, suc, _<_}
 use native.Mathlib.Omega.{arith}
 use Rattle.graphs.specs.Graph.{Graph, rules, source, target}
 use Rattle.graphs.specs.Path.{Path, stay, step, steps, HasCycle}

@@ -1,6 +1,6 @@
 -- `askable` meets its contract: each test that fails is one way not to be. Assumes nothing.
-use mathlib.Core.Path.{_≡_, sym}
-use mathlib.Core.Bool.{true, false, true≢false}
+use mathlib.Core.Path.{sym}
+use mathlib.Core.Bool.{true≢false}
 use native.Mathlib.Omega.{arith}
 use Rattle.graphs.proofs.Unique.{counts-not-outside}
 use borrow.Author.Needs.{needs}

@@ -14,7 +14,7 @@ use mathlib.Core.List.{List}
 use Prim.Native.Nat.{ℕ, _<_, _≤_}
 use lib.IntN.{ℤ}
 use lib.Signed.{_≤ℤ_}
-use lib.ListN.{length, getD, replicate}
+use lib.ListN.{length, getD}
 use Rattle.integers.specs.Within.{Within}
 use Rattle.sequences.specs.Counted.{Counted}
 use Rattle.graphs.specs.Graph.{Graph, rules, source, target, least, most}

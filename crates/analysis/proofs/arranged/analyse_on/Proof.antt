@@ -1,18 +1,17 @@
 -- `analyse_on` meets its contract: what its parts promise, put together. Assumes nothing.
 use borrow.Author.Needs.{needs}
-use mathlib.Core.Path.{_≡_, refl, sym, subst, _∙_}
-use mathlib.Core.List.{List}
+use mathlib.Core.Path.{_≡_, refl, sym, subst}
 use mathlib.Core.Bool.{true}
 use Prim.Native.Nat.{ℕ, _<_, _≤_}
 use native.Mathlib.Omega.{arith}
 use lib.ListN.{length}
 use denote.Ref.{now}
 use borrow.Author.Tests.{not-true, not-false}
-use Rattle.graphs.specs.Graph.{Graph, graphOf, rules}
+use Rattle.graphs.specs.Graph.{Graph, graphOf}
 use Rattle.graphs.specs.Limits.{Sized}
 use Rattle.refusals.specs.Question.{delayLimit}
 use Rattle.refusals.proofs.Question.{QuestionKept}
-use Rattle.analysis.specs.Parts.Rules.{RuleRight, RulesTaken}
+use Rattle.analysis.specs.Parts.Rules.{RulesTaken}
 use Rattle.analysis.specs.Parts.Placing.{OrderReady}
 use Rattle.analysis.specs.Parts.Reach.{Arranged}
 use Rattle.analysis.proofs.Arranging.{rules-kept, sized-up, sized-right, right-sized, path-5, path-refused}

@@ -1,10 +1,10 @@
 -- `find_u` meets its contract. The invariant: the events from place k on have their U and their depth. Assumes nothing.
-use mathlib.Core.Path.{_≡_, refl, sym, subst, ap, _∙_}
+use mathlib.Core.Path.{_≡_, refl, subst, _∙_}
 use mathlib.Core.List.{List}
-use Prim.Native.Nat.{ℕ, _+_, _-_, _<_, _≤_}
+use Prim.Native.Nat.{ℕ, _-_, _<_, _≤_}
 use native.Mathlib.Omega.{arith}
 use lib.IntN.{ℤ}
-use lib.ListN.{length, getD, set, length-set}
+use lib.ListN.{length, getD}
 use Rattle.analysis.specs.Parts.Latest.{LatestReady}
 use Rattle.analysis.proofs.LatestPass.{Pulled, pulled-start, pulled-arrivals, pulled-other, pulled-root, pulled-latest, pulled-depths}
 use Rattle.analysis.proofs.latest.find_u.Statement.{statement}

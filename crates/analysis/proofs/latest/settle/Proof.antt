@@ -1,7 +1,7 @@
 -- `settle` meets its contract: it writes down what `pull` finds. Assumes nothing.
 use borrow.Author.Needs.{needs}
 use mathlib.Core.Path.{_≡_, refl}
-use lib.IntN.{ℤ, pos}
+use lib.IntN.{pos}
 use mir.Syntax.{w32}
 use mir.Val.{toZ, ofZ}
 use mir.ValLaws.{toZ-ofZ}

@@ -1,16 +1,15 @@
 -- `push` meets its contract. The invariant: the walk stands at e, and the rules passed have been pushed along (Laws.antt). Assumes nothing.
 use mathlib.Core.Path.{_≡_, refl, sym, ap, _∙_}
 use mathlib.Core.List.{List}
-use Prim.Native.Nat.{ℕ, _-_, _<_, _≤_}
+use Prim.Native.Nat.{ℕ, _-_, _<_}
 use native.Mathlib.Omega.{arith}
 use lib.Dec.{lit<}
 use lib.IntN.{ℤ, pos, _-ℤ_}
 use lib.ListN.{length, getD, length-set}
 use mir.Syntax.{w32}
-use mir.Val.{SFits, toZ, ofZ}
+use mir.Val.{toZ, ofZ}
 use mir.ValLaws.{toZ-ofZ}
 use Rattle.integers.specs.Within.{Within}
-use Rattle.executions.specs.Steps.{Lesser}
 use Rattle.integers.proofs.Word.{difference-fits, difference-back}
 use Rattle.analysis.specs.Parts.Paths.{PushReady}
 use Rattle.analysis.proofs.paths.push.Proof.Laws.{Pushing, event-known, pushing-begins, pushing-rule, pushing-ends, RuleHere, rule-here}

@@ -1,7 +1,7 @@
 -- `push_all` meets its contract. The invariant: the first k events have handed on their m. Assumes nothing.
-use mathlib.Core.Path.{_≡_, refl, sym, subst, ap, _∙_}
+use mathlib.Core.Path.{_≡_, refl, sym, ap, _∙_}
 use mathlib.Core.List.{List}
-use Prim.Native.Nat.{ℕ, _+_, _-_, _<_, _≤_}
+use Prim.Native.Nat.{ℕ, _-_, _<_}
 use native.Mathlib.Omega.{arith}
 use lib.IntN.{ℤ, pos}
 use lib.ListN.{length, getD}
@@ -9,7 +9,7 @@ use mir.Syntax.{w32}
 use mir.Val.{toZ, ofZ}
 use mir.ValLaws.{toZ-ofZ}
 use Rattle.graphs.specs.Graph.{graphOf}
-use Rattle.analysis.specs.Parts.Paths.{absent, MHeld, there, none, MReady, PassReady, PushReady, MPass}
+use Rattle.analysis.specs.Parts.Paths.{absent, PassReady, PushReady, MPass}
 use Rattle.analysis.proofs.MPass.{pass-held, pass-done, pass-over, pass-end, absent-dead}
 use Rattle.analysis.proofs.paths.push_all.Statement.{statement}
 use Rattle.analysis.proofs.paths.push_all.Tie as tie

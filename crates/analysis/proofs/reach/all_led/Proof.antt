@@ -1,6 +1,6 @@
 -- `all_led` meets its contract. The invariant: the events from 1 to v − 1 have a rule into them. Assumes nothing.
 use borrow.Author.Needs.{needs}
-use mathlib.Core.Path.{_≡_, sym, subst}
+use mathlib.Core.Path.{sym, subst}
 use mathlib.Core.List.{List}
 use mathlib.Core.Bool.{true≢false}
 use Prim.Native.Nat.{ℕ, _+_, _-_, _<_, _≤_}

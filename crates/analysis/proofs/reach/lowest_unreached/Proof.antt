@@ -1,8 +1,6 @@
 -- `lowest_unreached` meets its contract: by the rules into the events, or by the marks. Assumes nothing.
 use borrow.Author.Needs.{needs}
-use mathlib.Core.Path.{_≡_, refl, sym, subst, ap, _∙_}
 use native.Mathlib.Omega.{arith}
-use borrow.Author.Tests.{not-true, not-false}
 use Rattle.analysis.proofs.ReachPass.{led-lowest, marked-lowest}
 use Rattle.analysis.proofs.reach.lowest_unreached.Statement.{statement}
 use Rattle.analysis.proofs.reach.lowest_unreached.Tie as tie

@@ -1,8 +1,6 @@
 -- `mark_of` meets its contract: each return is one way to have a mark, or none. Assumes nothing.
 use borrow.Author.Needs.{needs}
-use mathlib.Core.Path.{_≡_, refl, subst}
-use mathlib.Core.Bool.{Bool, true, false}
-use borrow.Author.Tests.{not-true, not-false}
+use mathlib.Core.Path.{refl, subst}
 use Rattle.analysis.specs.Parts.Reach.{SourceMarked, at-root, marked, unmarked}
 use Rattle.analysis.proofs.reach.mark_of.Statement.{statement}
 use Rattle.analysis.proofs.reach.mark_of.Tie as tie

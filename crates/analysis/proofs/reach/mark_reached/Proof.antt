@@ -1,9 +1,9 @@
 -- `mark_reached` meets its contract. The invariant: the events from place k on are marked as they should be. Assumes nothing.
-use mathlib.Core.Path.{_≡_, refl, sym, subst, ap, _∙_}
+use mathlib.Core.Path.{_≡_, refl, subst}
 use mathlib.Core.List.{List}
-use Prim.Native.Nat.{ℕ, _+_, _-_, _<_, _≤_}
+use Prim.Native.Nat.{ℕ, _-_, _<_, _≤_}
 use native.Mathlib.Omega.{arith}
-use lib.ListN.{length, getD, set, length-set}
+use lib.ListN.{length, getD, length-set}
 use Rattle.analysis.specs.Parts.Reach.{Arranged}
 use Rattle.analysis.proofs.ReachPass.{MarksFrom, marks-start, mark-ready, marks-turn, marks-end}
 use Rattle.analysis.proofs.reach.mark_reached.Statement.{statement}

@@ -1,7 +1,6 @@
 -- `rule_right` meets its contract: each test that fails is one way for the rule to be wrong. Assumes nothing.
-use mathlib.Core.Path.{_≡_, sym, _∙_}
-use mathlib.Core.Bool.{Bool, true, false, true≢false}
-use Prim.Native.Nat.{_<_}
+use mathlib.Core.Path.{sym}
+use mathlib.Core.Bool.{true≢false}
 use native.Mathlib.Omega.{arith}
 use mir.Syntax.{w64}
 use mir.Val.{SFits}
@@ -9,7 +8,6 @@ use mir.ValLaws.{toZ-ofZ}
 use mir.Syntax.{w64}
 use mir.Val.{SFits}
 use mir.ValLaws.{toZ-ofZ}
-use Rattle.analysis.specs.Parts.Rules.{RightRule}
 use borrow.Author.Needs.{needs}
 use Rattle.analysis.proofs.rules.rule_right.Statement.{statement}
 use Rattle.analysis.proofs.rules.rule_right.Tie as tie

@@ -1,9 +1,9 @@
 -- `take_rules` meets its contract. The invariant: the rules below i are taken (Laws.antt). Assumes nothing.
-use mathlib.Core.Path.{_≡_, refl, sym, _∙_}
-use Prim.Native.Nat.{ℕ, _-_, _<_, _≤_}
+use mathlib.Core.Path.{_≡_, refl}
+use Prim.Native.Nat.{_-_, _<_, _≤_}
 use native.Mathlib.Omega.{arith}
 use borrow.Author.Tests.{not-true, not-false}
-use lib.ListN.{length, getD, length-set}
+use lib.ListN.{length, length-set}
 use denote.Ref.{now}
 use Rattle.graphs.specs.Graph.{Graph, graphOf, rules, source, target}
 use Rattle.graphs.specs.Limits.{CountsKept}

@@ -3,7 +3,7 @@ use mathlib.Core.Path.{_≡_}
 use lib.Dec.{lit<}
 use lib.IntN.{ℤ, _-ℤ_}
 use mir.Syntax.{w32, w64}
-use mir.Val.{SFits, toZ, ofZ}
+use mir.Val.{toZ, ofZ}
 use Rattle.integers.specs.Within.{Within}
 use Rattle.integers.proofs.Word.{within-fits, read-back, within-difference, cast-fits, cast-back}
 use Rattle.separation.proofs.lists.difference.Statement.{statement}

@@ -4,7 +4,6 @@ use Prim.Native.Nat.{_-_}
 use native.Mathlib.Omega.{arith}
 use lib.Dec.{lit<}
 use lib.IntN.{ℤ, pos, _-ℤ_}
-use lib.ListN.{getD}
 use Rattle.separation.specs.Parts.Lists.{TimeAt}
 use mir.Syntax.{w32, w64}
 use mir.Val.{toZ, ofZ}

@@ -5,18 +5,17 @@
 --     pushing-rule        rule e − 1 is pushed along: its source takes the lesser
 --     pushing-ends        at 0 all have been
 -- Assumes nothing.
-use mathlib.Core.Path.{_≡_, refl, sym, subst, _∙_}
+use mathlib.Core.Path.{_≡_, subst}
 use mathlib.Core.List.{List}
 use Prim.Native.Nat.{ℕ, suc, _-_, _<_, _≤_}
 use native.Mathlib.Omega.{arith}
 use lib.IntN.{ℤ, pos, _-ℤ_}
 use lib.ListN.{length, getD, set, length-set}
 use Rattle.integers.specs.Within.{Within}
-use Rattle.graphs.specs.Graph.{Graph, graphOf, least}
-use Rattle.graphs.specs.Path.{Path}
+use Rattle.graphs.specs.Graph.{graphOf}
 use Rattle.executions.specs.Steps.{M, Lesser}
 use Rattle.analysis.specs.Parts.Chains.{Last}
-use Rattle.analysis.specs.Parts.Paths.{absent, MHeld, there, none, MPass, PushReady}
+use Rattle.analysis.specs.Parts.Paths.{MHeld, there, none, MPass, PushReady}
 use Rattle.analysis.proofs.MPass.{m-within, v-known, pass-held, pass-walk, pass-rule}
 
 pub record Pushing (n : ℕ) (ss ts : List ℕ) (ds Ds : List ℤ) (s : ℕ) (rank : ℕ → ℕ) (k v : ℕ) (y : ℤ) (m₀ m : List ℤ) (e : ℕ) : Type 0 where

@@ -6,7 +6,7 @@
 --     taking-all                        with all rules taken, the answer true is as promised
 --     taking-wrong                      where rule i is not right, so is the answer false
 -- Assumes nothing.
-use mathlib.Core.Path.{_≡_, refl, sym, subst, _∙_}
+use mathlib.Core.Path.{_≡_, sym, subst, _∙_}
 use mathlib.Core.Bool.{true, false, true≢false}
 use mathlib.Core.List.{List}
 use Prim.Native.Nat.{ℕ, _+_, _<_, _≤_, zero-le}
@@ -19,8 +19,8 @@ use Rattle.sequences.specs.Counted.{Counted, none, hit, miss}
 use Rattle.sequences.proofs.Counting.{counted-most}
 use Rattle.graphs.specs.Graph.{Graph, rules, source, target}
 use Rattle.graphs.specs.Limits.{CountsKept}
-use Rattle.analysis.specs.Parts.Chains.{Last, Chained}
-use Rattle.analysis.specs.Parts.Rules.{RightRule, RuleRight, Tally, Zeros, RulesTaken}
+use Rattle.analysis.specs.Parts.Chains.{Last}
+use Rattle.analysis.specs.Parts.Rules.{RuleRight, Zeros, RulesTaken}
 
 pub record Taking (b : ℕ) (g : Graph) (heads nexts waiting : List ℕ) (i : ℕ) : Type 0 where
   pub within : i ≤ rules g
