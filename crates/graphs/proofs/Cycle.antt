@@ -1,5 +1,6 @@
 -- A path with as many rules as the graph has events meets an event twice, so the graph has a cycle.
 --     eventAt p k             the event after k rules of p; beyond p's end, p's last event
+--     leaves-below            a path on which a rule stands starts below b, where every source is
 --     on-cycle-known          an event that lies on a cycle exists, where every rule's events do
 --     part-of                 the part of a path between two of its places
 --     closed-cycle            a path between equal events on which a rule stands is a cycle
@@ -20,13 +21,13 @@ eventAt {u = u} p zero = u
 eventAt {u = u} stay (suc k) = u
 eventAt (step i h e f p) (suc k) = eventAt p k
 
--- the first rule of the cycle leads from it
-leaves-known : {g : Graph} → ((i : ℕ) → i < rules g → EndsKept g i) → {u v : ℕ} (p : Path g u v) → 0 < steps p → u < g .events
-leaves-known kept stay l = absurd (let none : ⊥ = omega arith in none)
-leaves-known {g} kept (step i h e f p) l = subst (λ (x : ℕ). x < g .events) e (kept i h .source-known)
+-- the first rule of the path leads from it
+pub leaves-below : {g : Graph} {b : ℕ} → ((i : ℕ) → i < rules g → source g i < b) → {u v : ℕ} (p : Path g u v) → 0 < steps p → u < b
+leaves-below below stay l = absurd (let none : ⊥ = omega arith in none)
+leaves-below {b = b} below (step i h e f p) l = subst (λ (x : ℕ). x < b) e (below i h)
 
 pub on-cycle-known : {g : Graph} {v : ℕ} → ((i : ℕ) → i < rules g → EndsKept g i) → OnCycle g v → v < g .events
-on-cycle-known kept c = leaves-known kept (c .0) (c .1)
+on-cycle-known kept c = leaves-below (λ i l. kept i l .source-known) (c .0) (c .1)
 
 -- the rules of p from place i to place j
 pub part-of : {g : Graph} {u v : ℕ} (p : Path g u v) (i j : ℕ) → i ≤ j → j ≤ steps p → (q : Path g (eventAt p i) (eventAt p j)) × (i + steps q ≡ j)
