@@ -1,7 +1,6 @@
 -- Laws of the refusals of a graph, and of a question about two of its events.
 --     missing-end-unique                           refusal 4 has one place
 --     count-places, graph-places, question-places, path-places   each check of the list has one place
---     holds-at, misses-at-zero                     a check at place 0 applies where what it asks is broken, and misses where it is kept
 --     events-miss, rules-miss, ends-miss, delays-miss, missing-end-misses, cycle-misses, unreached-misses
 --                                                  where what it asks is kept, the refusal applies nowhere
 --     count-none, graph-none, question-none, path-none         so where all is kept no check of the list applies
@@ -30,8 +29,9 @@ use Rattle.verdicts.proofs.Verdicts.{
   Alike,
   lowest-unique,
   none-lowest,
-  at-zero,
   at-zero-unique,
+  misses-at-zero,
+  holds-not,
   then-unique,
   one-verdict,
   then-more,
@@ -71,12 +71,6 @@ pub path-places : (g : Graph) → OnePlaces (pathChecks g)
 path-places g = (lowest-unique, (lowest-unique, tt))
 
 -- ---- where nothing is refused
-
-pub misses-at-zero : {A : Type 0} → (A → ⊥) → Misses (AtZero A)
-misses-at-zero none p a = none (a .holds)
-
-pub holds-at : {A : Type 0} → Misses (AtZero A) → A → ⊥
-holds-at none h = none 0 (at-zero h)
 
 module _ {g : Graph} where
   pub events-miss : CountsKept g → Misses (AtZero (EventsOutside 1024 (g .events)))
@@ -119,10 +113,10 @@ module _ {g : Graph} where
   -- ---- and only there
 
   pub graph-sized : NoneApplies (graphChecks g) → Sized 1000000 g
-  graph-sized none = sized-of (holds-at (none .0)) (holds-at (none .1 .0)) (none .1 .1 .0) (none .1 .1 .1 .0)
+  graph-sized none = sized-of (holds-not (none .0)) (holds-not (none .1 .0)) (none .1 .1 .0) (none .1 .1 .1 .0)
 
   pub question-sized : {b s t : ℕ} {Short : Type 0} → NoneApplies (questionChecksTo b g s t Short) → Sized b g
-  question-sized none = sized-of (holds-at (none .0)) (holds-at (none .1 .0)) (none .1 .1 .1 .0) (none .1 .1 .1 .1 .0)
+  question-sized none = sized-of (holds-not (none .0)) (holds-not (none .1 .0)) (none .1 .1 .1 .0) (none .1 .1 .1 .1 .0)
 
   -- where no event is the lowest on a cycle, none lies on one
   pub path-kept : NoneApplies (pathChecks g) → HasCycle g → ⊥

@@ -10,11 +10,10 @@ use Prim.Native.Nat.{ℕ, _<_, _≤_}
 use native.Mathlib.Omega.{arith}
 use lib.ListN.{length}
 use Rattle.verdicts.specs.Verdict.{given, passed, Accepted, FirstThen, FirstOf}
-use Rattle.verdicts.proofs.Verdicts.{NoneApplies, at-zero, none-accepted, accepted-none, front-given}
+use Rattle.verdicts.proofs.Verdicts.{NoneApplies, at-zero, misses-at-zero, holds-not, none-accepted, accepted-none, front-given}
 use Rattle.graphs.specs.Graph.{Graph, rules}
 use Rattle.graphs.specs.Limits.{CountsKept}
 use Rattle.graphs.specs.Refusal.{EventsOutside, no-events, many-events, RulesOutside, many-rules, targets-differ, leasts-differ, mosts-differ, countChecks}
-use Rattle.graphs.proofs.Refusals.{misses-at-zero, holds-at}
 use Rattle.graphs.proofs.Unique.{counts-kept}
 
 events-in : {top n : ℕ} → (n ≡ 0 → ⊥) → n ≤ top → EventsOutside top n → ⊥
@@ -49,12 +48,12 @@ module _ {top most : ℕ} {g : Graph} where
 
   pub counts-in : NoneApplies (countChecks top most g) → (0 < g .events) × (g .events ≤ top) × (rules g ≤ most)
   counts-in none =
-      let some : g .events ≡ 0 → ⊥ = λ e. holds-at (none .0) (no-events e) in
-      let few : top < g .events → ⊥ = λ l. holds-at (none .0) (many-events l) in
-      let few-rules : most < rules g → ⊥ = λ l. holds-at (none .1 .0) (many-rules l) in
+      let some : g .events ≡ 0 → ⊥ = λ e. holds-not (none .0) (no-events e) in
+      let few : top < g .events → ⊥ = λ l. holds-not (none .0) (many-events l) in
+      let few-rules : most < rules g → ⊥ = λ l. holds-not (none .1 .0) (many-rules l) in
       (omega arith, omega arith, omega arith)
 
 pub counts-of : {g : Graph} {j p : ℕ} → j ≡ 0 → FirstOf (countChecks 1024 4096 g) j p → CountsKept g
 counts-of {g} {j} {p} e v =
     let none : NoneApplies (countChecks 1024 4096 g) = counts-none e v in
-    counts-kept (holds-at (none .0)) (holds-at (none .1 .0))
+    counts-kept (holds-not (none .0)) (holds-not (none .1 .0))

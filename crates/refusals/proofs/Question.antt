@@ -12,12 +12,12 @@ use native.Mathlib.Omega.{arith}
 use lib.IntN.{ℤ}
 use lib.ListN.{length}
 use Rattle.verdicts.specs.Verdict.{given, passed, FirstThen, FirstOf, Lowest, LowestOr}
-use Rattle.verdicts.proofs.Verdicts.{NoneApplies, none-accepted, accepted-none}
+use Rattle.verdicts.proofs.Verdicts.{NoneApplies, misses-at-zero, none-accepted, accepted-none}
 use Rattle.verdicts.proofs.Searches.{lowest-bad, all-good, as-long}
 use Rattle.graphs.specs.Graph.{Graph, graphOf, rules}
 use Rattle.graphs.specs.Limits.{CountsKept, EndsKept, DelaysKept, Sized}
 use Rattle.graphs.specs.Refusal.{UnknownEvent, DelayBeyond, MissingEnd, source-missing, target-missing, questionChecksTo}
-use Rattle.graphs.proofs.Refusals.{misses-at-zero, events-miss, rules-miss, ends-miss, delays-miss, question-none, question-sized}
+use Rattle.graphs.proofs.Refusals.{events-miss, rules-miss, ends-miss, delays-miss, question-none, question-sized}
 use Rattle.refusals.specs.Faults.{EndsKnown, EndUnknown, DelaysBounded, DelaysBeyond}
 use Rattle.refusals.proofs.Unique.{known-not-unknown, inside-not-outside}
 

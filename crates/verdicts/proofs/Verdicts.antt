@@ -6,6 +6,7 @@
 --     accepted-unique, then-unique     a list each of whose checks has one place gives one number and place, where Rest does
 --     one-verdict                      and where nothing is left to Rest
 --     Misses At, NoneApplies cs        At holds of no place; no check of the list applies
+--     misses-at-zero, holds-not        what does not hold applies at no place, both ways
 --     passed-all, rest-of              where no check of the list applies, the verdict is that of Rest, both ways
 --     given-after                      a check is given where none before it applies
 --     then-more                        another Rest
@@ -79,6 +80,12 @@ Misses At = (p : ℕ) → At p → ⊥
 abbrev pub NoneApplies : List Check → Type 0
 NoneApplies [] = Unit {0}
 NoneApplies (c ∷ cs) = Misses (c .At) × NoneApplies cs
+
+pub misses-at-zero : {A : Type 0} → (A → ⊥) → Misses (AtZero A)
+misses-at-zero none p a = none (a .holds)
+
+pub holds-not : {A : Type 0} → Misses (AtZero A) → A → ⊥
+holds-not none h = none 0 (at-zero h)
 
 pub passed-all : (cs : List Check) (Rest : ℕ → ℕ → Type 0) (j p : ℕ) → NoneApplies cs → Rest j p → FirstThen cs Rest j p
 passed-all [] Rest j p none v = v
