@@ -9,7 +9,7 @@
 --     misses-at-zero, holds-not        what does not hold applies at no place, both ways
 --     passed-all, rest-of              where no check of the list applies, the verdict is that of Rest, both ways
 --     given-after                      a check is given where none before it applies
---     then-more                        another Rest
+--     then-more, then-more-after       another Rest; only what no check of the list refuses is asked of it
 --     front-given                      a refusal by the list is given, whatever Rest says
 --     front-or-rest                    a verdict is by the list, or no check of it applies and it is by Rest
 --     Refusals cs                      no check of the list has number 0
@@ -110,6 +110,11 @@ first-more f (passed n r) = passed n (f r)
 pub then-more : (cs : List Check) (Rest Rest′ : ℕ → ℕ → Type 0) (j p : ℕ) → (Rest j p → Rest′ j p) → FirstThen cs Rest j p → FirstThen cs Rest′ j p
 then-more [] Rest Rest′ j p f v = f v
 then-more (c ∷ cs) Rest Rest′ j p f v = first-more (then-more cs Rest Rest′ j p f) v
+
+pub then-more-after : (cs : List Check) (Rest Rest′ : ℕ → ℕ → Type 0) (j p : ℕ) → (NoneApplies cs → Rest j p → Rest′ j p) → FirstThen cs Rest j p → FirstThen cs Rest′ j p
+then-more-after [] Rest Rest′ j p f v = f tt v
+then-more-after (c ∷ cs) Rest Rest′ j p f (given a) = given a
+then-more-after (c ∷ cs) Rest Rest′ j p f (passed none r) = passed none (then-more-after cs Rest Rest′ j p (λ others. f (none, others)) r)
 
 pub not-accepted : {A : Type 0} {j p : ℕ} → (j ≡ 0 → ⊥) → Accepted j p → A
 not-accepted some accepted = absurd (some refl)
