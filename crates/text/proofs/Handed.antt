@@ -19,12 +19,12 @@ use lib.IntN.{ℤ}
 use lib.ListN.{length, take, drop, length-map, length-take}
 use lib.Seq.{take-at}
 use Rattle.graphs.specs.Graph.{Graph, graphOf}
-use Rattle.verdicts.specs.Verdict.{Check, check, Accepted, FirstThen, AtZero}
+use Rattle.verdicts.specs.Verdict.{check, Accepted, FirstThen, AtZero}
 use Rattle.verdicts.proofs.Verdicts.{Misses, NoneApplies, Refusals, misses-at-zero, holds-not, passed-all, rest-of, then-more-after, not-accepted, accepted-none}
 use Rattle.separation.specs.declared.Answer.{Answer}
 use Rattle.separation.specs.Promise.{Verdict, Answered, Nothing}
 use Rattle.text.specs.declared.Reading.{Reading}
-use Rattle.text.specs.Grammar.{Rule, Text, Broken}
+use Rattle.text.specs.Grammar.{Rule, Text}
 use Rattle.text.specs.Reading.{
   events,
   sourcesOf,
@@ -33,9 +33,8 @@ use Rattle.text.specs.Reading.{
   mostsOf,
   graphOfRules,
   ShortForRules,
-  ManyEvents,
-  ManyRows,
   OfText,
+  textAlone,
   textChecks,
   TextVerdict,
   ReadOff,
@@ -45,10 +44,6 @@ use Rattle.text.specs.Reading.{
 use Rattle.text.specs.Answers.{NoLists, TextAnswered}
 
 -- ---- from one verdict to the next
-
--- the checks of a text before that of the lent lists
-abbrev textFront : List ℕ → List Check
-textFront bs = check 1 (AtZero (32768 < length bs)) ∷ check 8 (Broken bs) ∷ check 21 (AtZero (OfText bs ManyEvents)) ∷ check 22 (AtZero (OfText bs ManyRows)) ∷ []
 
 -- no check of a text has number 0
 text-refusals : (bs : List ℕ) (Short : List Rule → Type 0) → Refusals (textChecks bs Short)
@@ -62,7 +57,7 @@ module _ {bs : List ℕ} {Short : List Rule → Type 0} where
   -- where a list is too short only for more than 1,024 rows, it is 22 that is given
   pub refused-on : ((rs : List Rule) → Short rs → 1024 < length rs) → {Rest : ℕ → ℕ → Type 0} {j p : ℕ} → TextVerdict bs Short Accepted j p → (j ≡ 0 → ⊥) → TextVerdict bs NoLists Rest j p
   refused-on room {Rest} {j} {p} v other =
-      then-more-after (textFront bs) (FirstThen (check 23 (AtZero (OfText bs Short)) ∷ []) Accepted) (FirstThen (check 23 (AtZero (OfText bs NoLists)) ∷ []) Rest) j p
+      then-more-after (textAlone bs) (FirstThen (check 23 (AtZero (OfText bs Short)) ∷ []) Accepted) (FirstThen (check 23 (AtZero (OfText bs NoLists)) ∷ []) Rest) j p
       (λ none w.
       not-accepted other
       (rest-of (check 23 (AtZero (OfText bs Short)) ∷ []) Accepted j p

@@ -5,7 +5,8 @@
 --     ManyEvents rs        == the rules rs have more events than a text may
 --     ManyRows rs          == they are more than a text may have
 --     OfText bs A          == bs is the text of rules of which A holds
---     textChecks bs Short  == the refusals 1, 8, 21, 22 and 23 of a text; Short says of its rules when a lent list is too short
+--     textAlone bs         == the refusals 1, 8, 21 and 22: those that speak of the text alone
+--     textChecks bs Short  == these and 23; Short says of the rules when a lent list is too short
 --     TextVerdict bs Short Rest == the first of them that applies, then Rest
 --     ReadOff bs Short a   == a is the reading of bs
 --     ListsHold rs …       == the four lent lists hold the rules rs, and beyond what they held
@@ -58,10 +59,11 @@ pub record OfText (bs : List ℕ) (A : List Rule → Type 0) : Type 0 where
 
 -- "at most 32,768 bytes"; "Order: 1 for the bytes, 8, 1 for the counts"; 02: "The text's count check gives 21, then 22; 1 remains for its bytes only",
 -- and "short output list 23"
+abbrev pub textAlone : List ℕ → List Check
+textAlone bs = check 1 (AtZero (32768 < length bs)) ∷ check 8 (Broken bs) ∷ check 21 (AtZero (OfText bs ManyEvents)) ∷ check 22 (AtZero (OfText bs ManyRows)) ∷ []
+
 abbrev pub textChecks : List ℕ → (List Rule → Type 0) → List Check
-textChecks bs Short =
-    check 1 (AtZero (32768 < length bs)) ∷ check 8 (Broken bs) ∷
-    check 21 (AtZero (OfText bs ManyEvents)) ∷ check 22 (AtZero (OfText bs ManyRows)) ∷ check 23 (AtZero (OfText bs Short)) ∷ []
+textChecks bs Short = textAlone bs ++ (check 23 (AtZero (OfText bs Short)) ∷ [])
 
 abbrev pub TextVerdict : List ℕ → (List Rule → Type 0) → (ℕ → ℕ → Type 0) → ℕ → ℕ → Type 0
 TextVerdict bs Short Rest = FirstThen (textChecks bs Short) Rest
