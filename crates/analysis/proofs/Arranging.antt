@@ -4,19 +4,22 @@
 --     sized-up           a graph whose delays lie within 1,000,000 may be analysed
 --     sized-right        a graph whose counts are kept and whose rules are right, and back: right-sized
 --     lowest-not-reached, all-reached    what the search for an unreached event tells of the graph, by whether it stopped before the end
+--     ends-wider         keys below n are below any larger number
+--     lowest-on          where there is a cycle, the search finds the lowest event on one
 --     path-5, path-6, path-0    refusals 5 and 6, and that neither applies
 --     path-refused       refusal 5 or 6 is what the passes answer
 --     path-computed      and so is what they computed
 -- Assumes nothing.
 use mathlib.Core.Path.{_≡_, refl, sym, subst₂}
-use mathlib.Core.List.{List}
+use mathlib.Core.List.{List, []}
 use Prim.Native.Nat.{ℕ, _<_, _≤_}
+use native.Mathlib.Decide.{decLt}
 use native.Mathlib.Omega.{arith}
 use lib.IntN.{ℤ}
 use lib.ListN.{replicate, length-replicate, getD-replicate}
 use Rattle.integers.proofs.Word.{within-wider}
 use Rattle.graphs.specs.Graph.{Graph, graphOf, rules}
-use Rattle.graphs.specs.Path.{HasCycle, Reachable}
+use Rattle.graphs.specs.Path.{OnCycle, HasCycle, Reachable}
 use Rattle.graphs.specs.Refusal.{Unreached, pathChecks}
 use Rattle.verdicts.specs.Verdict.{given, passed, FirstOf, Lowest, LowestOr}
 use Rattle.verdicts.proofs.Verdicts.{none-accepted}
@@ -24,11 +27,16 @@ use Rattle.verdicts.proofs.Searches.{lowest-bad, all-good}
 use Rattle.graphs.proofs.Refusals.{cycle-misses, path-none}
 use Rattle.graphs.specs.Limits.{CountsKept, Sized}
 use Rattle.analysis.specs.declared.Analysis.{Analysis}
-use Rattle.analysis.specs.Parts.Rules.{RuleRight, RulesKept, Zeros}
+use Rattle.analysis.specs.Parts.Rules.{RuleRight, EndsBelow, RulesKept, Zeros}
+use Rattle.graphs.proofs.Cycle.{leaves-below}
+use Rattle.analysis.specs.Parts.Cycles.{LiesOn, LiesOff}
 use Rattle.analysis.specs.Parts.Arranged.{Computed, PathsAnalysed}
 
 pub zeros : (k : ℕ) {n : ℕ} → n ≤ k → Zeros n (replicate k 0)
 zeros k l = record { room = omega (arith, length-replicate {A = ℕ} k 0); zero = λ v h. getD-replicate {A = ℕ} k v 0 0 (omega (arith, length-replicate {A = ℕ} k 0)) }
+
+pub ends-wider : {n m : ℕ} {keys : List ℕ} → n ≤ m → EndsBelow n keys → EndsBelow m keys
+ends-wider l e = record { below = λ i h. omega (arith, e .below i h) }
 
 pub rules-kept : {b n : ℕ} {ss ts : List ℕ} {ds Ds : List ℤ} → Sized b (graphOf n ss ts ds Ds) → RulesKept n ss ts
 rules-kept sized =
@@ -72,6 +80,19 @@ right-sized sized i l =
 
 -- ---- refusals 5 and 6
 
+-- where there is a cycle, the search finds the lowest event on one: an event on a cycle is one of the n
+pub lowest-on : {n : ℕ} {ss ts : List ℕ} {r : ℕ} → EndsBelow n ss → ((ds Ds : List ℤ) → HasCycle (graphOf n ss ts ds Ds)) → LowestOr n (LiesOff ss ts) (LiesOn ss ts) r →
+    (r < n) × ((ds Ds : List ℤ) → Lowest (OnCycle (graphOf n ss ts ds Ds)) r)
+lowest-on {n} {ss} {ts} {r} below cyclic found =
+    let l : r < n = stops (decLt r n) in
+    (l, λ ds Ds. lowest-bad (OnCycle (graphOf n ss ts ds Ds)) (λ i _ off. off n ds Ds) (λ i _ on. on n ds Ds) found l)
+  where
+    stops : Dec (r < n) → r < n
+    stops (yes l) = l
+    stops (no l) =
+        let (v, (p, some)) = cyclic [] [] in
+        absurd (all-good found (omega arith) v (leaves-below (below .below) p some) n [] [] (p, some))
+
 module _ {g : Graph} where
   pub lowest-not-reached : {r : ℕ} → LowestOr (g .events) (Reachable g) (λ v. Reachable g v → ⊥) r → r < g .events → Lowest (Unreached g) r
   lowest-not-reached = lowest-bad (Unreached g) (λ v l p u. u .no-path p) (λ v l none. record { is-event = l; no-path = none })
@@ -79,8 +100,8 @@ module _ {g : Graph} where
   pub all-reached : {r : ℕ} → LowestOr (g .events) (Reachable g) (λ v. Reachable g v → ⊥) r → g .events ≤ r → (v : ℕ) → v < g .events → Reachable g v
   all-reached h l v m = all-good h l v m
 
-  pub path-5 : HasCycle g → FirstOf (pathChecks g) 5 0
-  path-5 h = given (record { zero-place = refl; holds = h })
+  pub path-5 : {p : ℕ} → Lowest (OnCycle g) p → FirstOf (pathChecks g) 5 p
+  path-5 h = given h
 
   pub path-6 : (HasCycle g → ⊥) → {p : ℕ} → Lowest (Unreached g) p → FirstOf (pathChecks g) 6 p
   path-6 acyclic h = passed (cycle-misses acyclic) (given h)

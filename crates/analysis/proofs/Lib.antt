@@ -5,5 +5,7 @@ pub mod Placement
 pub mod MPass
 pub mod ReachPass
 pub mod LatestPass
+pub mod Marking
+pub mod Searching
 pub mod Arranging
 pub mod Promises

@@ -6,4 +6,5 @@ pub mod Placing
 pub mod Reach
 pub mod Paths
 pub mod Latest
+pub mod Cycles
 pub mod Arranged

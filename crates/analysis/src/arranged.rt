@@ -1,19 +1,26 @@
 // The analysis of a graph whose counts are right, on lists that the caller lends for the work.
 //     analyse_on         the whole of it
+//     arrange            the order, or the lowest event on a cycle
 //     analyse_arranged   what follows once the events are in order
 //     find_latest        m and U
 ghost use mathlib.Core.Path.{_≡_};
 ghost use mathlib.Core.List.{List};
 ghost use Prim.Native.Nat.{ℕ, _<_, _≤_};
+ghost use lib.IntN.{ℤ};
 ghost use lib.ListN.{length};
+ghost use Rattle.verdicts.specs.Verdict.{Lowest};
 ghost use Rattle.graphs.specs.Graph.{graphOf};
+ghost use Rattle.graphs.specs.Path.{OnCycle};
 ghost use Rattle.graphs.specs.Limits.{CountsKept, Sized, EventGraph};
 ghost use Rattle.refusals.specs.Question.{delayLimit};
 ghost use Rattle.analysis.specs.Promise.{Analysed};
+ghost use Rattle.analysis.specs.Parts.Order.{Order};
+ghost use Rattle.analysis.specs.Parts.Placing.{OrderReady};
 ghost use Rattle.analysis.specs.Parts.Reach.{Arranged};
 ghost use Rattle.analysis.specs.Parts.Latest.{LatestFound, DepthsFound};
 ghost use Rattle.analysis.specs.Parts.Arranged.{Room, PathsAnalysed, InputRefused};
 use crate::Analysis;
+use crate::cycles::lowest_on_cycle;
 use crate::latest::find_u;
 use crate::order::order_events;
 use crate::paths::find_m;
@@ -115,6 +122,26 @@ pub(crate) fn input_refused(
     refused(input.number, input.place)
 }
 
+// Orders the events, from the sinks on. The answer is n, or where the graph has a cycle the lowest event that lies on one.
+fn arrange(
+    n: usize,
+    sources: &[usize],
+    targets: &[usize],
+    heads: &[u16],
+    nexts: &[u16],
+    waiting: &mut [u16],
+    order: &mut [u16],
+) -> usize
+    requires { ⌜ OrderReady n (now sources) (now targets) (now heads) (now nexts) (now waiting) (now order) × (length (now heads) ≤ 1024) ⌝ }
+    ensures { λ r. ⌜ (n ≤ r → (rank : ℕ → ℕ) × Order n (now (sources .entry)) (now (targets .entry)) (now (order .exit)) rank) ⌝ }
+    ensures { λ r. ⌜ (r < n → (ds Ds : List ℤ) → Lowest (OnCycle (graphOf n (now (sources .entry)) (now (targets .entry)) ds Ds)) r) ⌝ }
+{
+    if order_events(n, sources, heads, nexts, waiting, order) {
+        return n;
+    }
+    lowest_on_cycle(n, sources, targets, heads, nexts)
+}
+
 // Refusal 2, 3, 5 or 6, or both depths; then `latest` holds U of every event.
 pub(crate) fn analyse_on(
     n: usize,
@@ -150,8 +177,9 @@ pub(crate) fn analyse_on(
     ) {
         return input_refused(n, sources, targets, leasts, mosts, limit, s, t);
     }
-    if !order_events(n, sources, heads, nexts, waiting, order) {
-        return refused(5, 0);
+    let lowest = arrange(n, sources, targets, heads, nexts, waiting, order);
+    if lowest < n {
+        return refused(5, lowest);
     }
     analyse_arranged(
         n,

@@ -5,10 +5,10 @@ ghost use mathlib.Core.Path.{_≡_};
 ghost use mathlib.Core.Bool.{true, false};
 ghost use Prim.Native.Nat.{_<_};
 ghost use Rattle.graphs.specs.Graph.{graphOf};
-ghost use Rattle.graphs.specs.Limits.{CountsKept};
 ghost use Rattle.analysis.specs.Promise.{Analysed};
 
 mod arranged;
+mod cycles;
 mod latest;
 mod lists;
 mod order;
@@ -40,18 +40,10 @@ pub(crate) fn refused(number: usize, place: usize) -> Analysis
     }
 }
 
-// Whether the counts are within their limits, and s and t are events.
-fn askable(
-    n: usize,
-    sources: &[usize],
-    targets: &[usize],
-    leasts: &[i64],
-    mosts: &[i64],
-    s: usize,
-    t: usize,
-) -> bool
-    ensures { λ r. ⌜ (r ≡ true → CountsKept (graphOf n (now (sources .entry)) (now (targets .entry)) (now (leasts .entry)) (now (mosts .entry))) × (s < n) × (t < n)) ⌝ }
-    ensures { λ r. ⌜ (r ≡ false → CountsKept (graphOf n (now (sources .entry)) (now (targets .entry)) (now (leasts .entry)) (now (mosts .entry))) × (s < n) × (t < n) → ⊥) ⌝ }
+// Whether s and t are events.
+fn both_known(n: usize, s: usize, t: usize) -> bool
+    ensures { λ r. ⌜ (r ≡ true → (s < n) × (t < n)) ⌝ }
+    ensures { λ r. ⌜ (r ≡ false → (s < n) × (t < n) → ⊥) ⌝ }
 {
     if s >= n {
         return false;
@@ -59,7 +51,7 @@ fn askable(
     if t >= n {
         return false;
     }
-    refusals::counts_kept(n, sources, targets, leasts, mosts)
+    true
 }
 
 // U against s of each of the n events, into `latest`, and the depths of s and t. Delays may be from −limit to limit. Places beyond the n keep what they
@@ -77,10 +69,14 @@ pub fn analyse(
 ) -> Analysis
     ensures { λ r. ⌜ Analysed limit (graphOf n (now (sources .entry)) (now (targets .entry)) (now (leasts .entry)) (now (mosts .entry))) s t (now (latest .entry)) (now (latest .exit)) r ⌝ }
 {
-    if latest.len() < n {
-        return refused(1, 0);
+    let counts = refusals::check_counts(1024, 4096, n, sources, targets, leasts, mosts);
+    if counts != 0 {
+        return refused(counts, 0);
     }
-    if !askable(n, sources, targets, leasts, mosts, s, t) {
+    if latest.len() < n {
+        return refused(23, 0);
+    }
+    if !both_known(n, s, t) {
         return input_refused(n, sources, targets, leasts, mosts, limit, s, t);
     }
     if n <= 64 && sources.len() <= 1024 {

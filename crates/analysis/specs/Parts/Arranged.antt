@@ -1,8 +1,8 @@
 -- What the parts of the analysis hand to one another.
---     Room n rules heads nexts waiting order depth == the working lists have places enough, and the first and the third hold 0 everywhere
+--     Room n rules heads nexts waiting order depth == the working lists have places enough, heads no more than 1,024, and the first and the third hold 0 everywhere
 --     Computed g s t us₀ us a       == the graph has no cycle and every event is reachable; us holds U, and a both depths
 --     PathsAnalysed g s t us₀ us a  == a is refusal 5 or 6, or us and a hold what was computed
---     InputRefused limit g s t a    == a gives the first of the refusals 1 to 4 that applies, or number 0
+--     InputRefused limit g s t a    == a gives the first of the refusals 21, 22 and 2 to 4 that applies, or number 0
 -- Assumes nothing.
 use mathlib.Core.Path.{_≡_}
 use mathlib.Core.List.{List}
@@ -20,6 +20,7 @@ use Rattle.analysis.specs.Parts.Rules.{Zeros}
 
 pub record Room (n rules : ℕ) (heads nexts waiting order depth : List ℕ) : Type 0 where
   pub heads-zero : Zeros n heads
+  pub few-heads : length heads ≤ 1024
   pub waiting-zero : Zeros n waiting
   pub nexts-room : rules ≤ length nexts
   pub order-room : n ≤ length order

@@ -64,15 +64,18 @@ module _ (c : tie.Else1) where
         chains = taken .chains is-true;
       }
 
+few-heads : (c : tie.Else1) → length (c .before .before .before .before .before .before .before .take-rules .last .1 .1 .1 .1 .1 .1 .0) ≤ 1024
+few-heads c = omega (arith, c .before .before .before .before .before .before .before .take-rules .kept .1 .1 .1 .1 .1 .1 .0, c .before .before .before .before .before .before .before .before .before .before .before .before .before .before .before .before .before .before .before .pre .1 .few-heads)
+
 -- ---- past the order
 
-arranged : (c : tie.Else2) → Arranged (c .before .before .before .before .before .before .before .before .before .before .before .before .before .before .before .before .before .before .before .before .before .before .before .before .before .before .before .before .before .args .n) (c .before .before .before .before .before .before .before .before .before .before .before .before .before .before .before .before .before .before .before .before .before .before .before .before .before .before .before .before .before .args .sources .now) (c .before .before .before .before .before .before .before .before .before .before .before .before .before .before .before .before .before .before .before .before .before .before .before .before .before .before .before .before .before .args .targets .now) (c .before .before .before .before .before .before .before .before .before .before .before .before .before .before .before .before .before .take-rules .last .1 .1 .1 .1 .1 .1 .0) (c .before .before .before .before .before .before .before .before .before .before .before .before .before .before .before .before .before .take-rules .last .1 .1 .1 .1 .1 .1 .1 .0) (c .before .before .before .before .before .order-events .last .1 .1 .1 .1 .1 .0)
+arranged : (c : tie.Else2) → Arranged (c .before .before .before .before .before .before .before .before .before .before .before .before .before .before .before .before .before .before .before .before .before .before .before .before .before .before .before .before .before .args .n) (c .before .before .before .before .before .before .before .before .before .before .before .before .before .before .before .before .before .before .before .before .before .before .before .before .before .before .before .before .before .args .sources .now) (c .before .before .before .before .before .before .before .before .before .before .before .before .before .before .before .before .before .before .before .before .before .before .before .before .before .before .before .before .before .args .targets .now) (c .before .before .before .before .before .before .before .before .before .before .before .before .before .before .before .before .before .take-rules .last .1 .1 .1 .1 .1 .1 .0) (c .before .before .before .before .before .before .before .before .before .before .before .before .before .before .before .before .before .take-rules .last .1 .1 .1 .1 .1 .1 .1 .0) (c .before .before .before .before .before .arrange .last .1 .1 .1 .1 .1 .1 .0)
 arranged c =
-    let found = c .before .before .before .before .before .order-events .ensures _ (ready (c .before .before .before .before .before .before .before .before .before .before)) .ordered (not-false _ (c .if2 .left)) in
+    let found = c .before .before .before .before .before .arrange .ensures .0 (c .if2 .left) in
     record {
       kept = rules-kept (sized (c .before .before .before .before .before .before .before .before .before .before));
       chains = taken (c .before .before .before .before .before .before .before .before .before .before) .chains (is-true (c .before .before .before .before .before .before .before .before .before .before));
-      order-room = omega (arith, c .before .before .before .before .before .order-events .kept .1 .1 .1 .1 .1 .0, c .before .before .before .before .before .before .before .before .before .before .before .before .before .before .before .before .before .before .before .before .before .before .before .before .before .before .before .before .before .pre .1 .order-room);
+      order-room = omega (arith, c .before .before .before .before .before .arrange .kept .1 .1 .1 .1 .1 .1 .0, c .before .before .before .before .before .before .before .before .before .before .before .before .before .before .before .before .before .before .before .before .before .before .before .before .before .before .before .before .before .pre .1 .order-room);
       rank = found .0;
       ordered = found .1;
     }
@@ -101,8 +104,8 @@ returns c =
     (λ k. c .before .before .before .before .before .before .before .before .take-rules .ensures .wrong (not-true _ (c .before .if1 .taken)) (right-sized (subst (λ (b : ℕ). Sized b (graph (c .before .before .before .before .before .before .before .before .before .before .before .before .before .before .before .before .before .before .before .before))) (sym (c .before .before .before .before .before .before .before .before .before .before .before .before .delay-bound .ensures)) (k .sized))))
     (c .input-refused .ensures)
 
-order-events-requires : tie.Need-order-events-requires
-order-events-requires c κs = (_, ready (c .before .before .before .before))
+arrange-requires : tie.Need-arrange-requires
+arrange-requires c κs = (ready (c .before .before .before .before), few-heads (c .before .before .before .before))
 
 refused-requires : tie.Need-refused-requires
 refused-requires c κs = search needs
@@ -122,7 +125,7 @@ same-length-7 c = search needs
 returns-2 : tie.Need-returns-2
 returns-2 c =
     analysed-paths (room (c .before .before .before .before .before .before .before .before .before .before .before .before .before .before .before .before .before .before .before .before .before .before .before .before .before .before .before .before .before .before)) (question (c .before .before .before .before .before .before .before .before .before .before .before)) refl
-    (path-refused 5 0 (omega arith) (c .refused .ensures) (path-5 (c .before .before .before .before .before .before .order-events .ensures _ (ready (c .before .before .before .before .before .before .before .before .before .before .before)) .cyclic (not-true _ (c .before .if2 .taken)) _ _)))
+    (path-refused 5 _ (omega arith) (c .refused .ensures) (path-5 (c .before .before .before .before .before .before .arrange .ensures .1 (c .before .if2 .taken) _ _)))
 
 analyse-arranged-requires : tie.Need-analyse-arranged-requires
 analyse-arranged-requires c κs =
@@ -163,7 +166,7 @@ analyse-on-spec =
     same-length-2
     same-length-3
     returns
-    order-events-requires
+    arrange-requires
     refused-requires
     same-length-4
     same-length-5

@@ -22,7 +22,7 @@ slice-aggregate-analyse-on-5 c = search needs
 
 analyse-on-requires : tie.Need-analyse-on-requires
 analyse-on-requires c κs =
-    (c .before .before .before .before .before .before .before .before .pre, record { heads-zero = zeros 1024 (c .before .before .before .before .before .before .before .before .pre .0 .few-events); waiting-zero = zeros 1024 (c .before .before .before .before .before .before .before .before .pre .0 .few-events); nexts-room = c .before .before .before .before .before .before .before .before .pre .0 .few-rules; order-room = c .before .before .before .before .before .before .before .before .pre .0 .few-events; depth-room = c .before .before .before .before .before .before .before .before .pre .0 .few-events })
+    (c .before .before .before .before .before .before .before .before .pre, record { few-heads = omega arith; heads-zero = zeros 1024 (c .before .before .before .before .before .before .before .before .pre .0 .few-events); waiting-zero = zeros 1024 (c .before .before .before .before .before .before .before .before .pre .0 .few-events); nexts-room = c .before .before .before .before .before .before .before .before .pre .0 .few-rules; order-room = c .before .before .before .before .before .before .before .before .pre .0 .few-events; depth-room = c .before .before .before .before .before .before .before .before .pre .0 .few-events })
 
 same-length : tie.Need-same-length
 same-length c = search needs

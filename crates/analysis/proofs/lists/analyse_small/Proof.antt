@@ -22,7 +22,7 @@ slice-aggregate-analyse-on-5 c = search needs
 
 analyse-on-requires : tie.Need-analyse-on-requires
 analyse-on-requires c κs =
-    (c .before .before .before .before .before .before .before .before .pre .0, record { heads-zero = zeros 64 (c .before .before .before .before .before .before .before .before .pre .1 .0); waiting-zero = zeros 64 (c .before .before .before .before .before .before .before .before .pre .1 .0); nexts-room = c .before .before .before .before .before .before .before .before .pre .1 .1; order-room = c .before .before .before .before .before .before .before .before .pre .1 .0; depth-room = c .before .before .before .before .before .before .before .before .pre .1 .0 })
+    (c .before .before .before .before .before .before .before .before .pre .0, record { few-heads = omega arith; heads-zero = zeros 64 (c .before .before .before .before .before .before .before .before .pre .1 .0); waiting-zero = zeros 64 (c .before .before .before .before .before .before .before .before .pre .1 .0); nexts-room = c .before .before .before .before .before .before .before .before .pre .1 .1; order-room = c .before .before .before .before .before .before .before .before .pre .1 .0; depth-room = c .before .before .before .before .before .before .before .before .pre .1 .0 })
 
 same-length : tie.Need-same-length
 same-length c = search needs
