@@ -5,14 +5,14 @@
 --     progress-place    an event that becomes due and waits for no rule gets the next place
 --     progress-beyond   what stands at the next place and beyond may change
 --     progress-keep     an event that becomes due and still waits gets none
---     walk-begins       the walk through the rules of the event at place head comes to the first of them
---     walk-waits        the target of the rule that the walk comes to waits for one rule at least
---     walk-lowers       the walk serves that rule: its target waits for one rule less
+--     walk-begins       the walk through the rules into the event at place head comes to the first of them
+--     walk-waits        the source of the rule that the walk comes to waits for one rule at least
+--     walk-lowers       the walk serves that rule: its source waits for one rule less
 --     walk-finishes     the walk is over, and the next place is head + 1
 -- The idea. waiting[v] is the number of rules out of v that are not served. When it reaches 0, all rules out of v have been served, so their targets
 -- have places below `tail`: v may take the place `tail`, and targets still come first. A new place changes no count: a rule into v was not
--- served before, and is not served by now, as `tail` comes after head. The walk changes the count of one event at a step, as it passes one rule
--- of the event at place head, and `Last` says that there is no other such rule between two stops.
+-- served before, and is not served by now, as `tail` comes after head. The walk changes the count of one event at a step, as it passes one rule into
+-- the event at place head, and `Last` says that there is no other such rule between two stops.
 -- Assumes nothing.
 use mathlib.Core.Path.{_≡_, refl, sym, subst, _∙_}
 use mathlib.Core.Bool.{cond}
@@ -265,9 +265,9 @@ module _ (n : ℕ) (ss ts : List ℕ) (kept : RulesKept n ss ts) where
       due-placed v d k (yes q) = let z : getD waiting x 0 ≡ 0 = rw q at k in absurd (let y : ⊥ = omega arith in y)
       due-placed v d k (no q) = p .due-placed v (joins .others v q d) k
 
-  -- ---- the walk through the rules of the event at place head
+  -- ---- the walk through the rules into the event at place head
 
-  -- Between two stops of the walk, e and e′, no rule is passed but those of the event at place head; `last` says which of these lie below k.
+  -- Between two stops of the walk, e and e′, no rule is passed but those into the event at place head; `last` says which of these lie below k.
   later-kept : {order : List ℕ} {tail : ℕ} {rank : ℕ → ℕ} → Placed n ss ts order tail rank → (head e e′ k : ℕ) → head < tail → Last ts (getD order head 0) k e′ → (j : ℕ) → j < length ss → e ≤ 5000 → (j < e → j < k) → head * 5000 + j < rank (getD ts j 0) * 5000 + e → head * 5000 + j < rank (getD ts j 0) * 5000 + e′
   later-kept {order} {tail} {rank} p head e e′ k busy last j l small below later = kept-later (decLt (head * 5000 + j) (rank (getD ts j 0) * 5000 + e′))
     where

@@ -1,4 +1,4 @@
-// The lowest event that the root doesn't reach. Where no graph has a cycle and every event but the root has a rule into it, the root reaches them all; only
+// The lowest event that the root doesn't reach. Where the graph has no cycle and every event but the root has a rule into it, the root reaches them all; only
 // where one has none the events are marked, from the root on, and looked through.
 ghost use mathlib.Core.Path.{_≡_};
 ghost use mathlib.Core.Bool.{true, false};

@@ -10,6 +10,7 @@
 --     UAt g s us v x             == x is U(v), got from us at the sources of the rules into v
 --     LatestFound g s us₀ us     == us, which was us₀, holds U of every event, each small enough to subtract, and beyond the events what us₀ held
 --     LatestReady                == what is asked before the walk
+--     DepthsFound g depth        == depth holds the depth of every event
 -- 2050048000 is 2 · 1024 · 1001000: m takes up to 1024 delays and U up to 1024 more. Assumes nothing.
 use mathlib.Core.Path.{_≡_}
 use mathlib.Core.Logic.{_⊎_}
