@@ -80,43 +80,43 @@ module _ {g : ProcessGraph} (zero : ZeroStarts g) where
   pub zero-unfolds : {K : ℕ} {graph : Graph} → Unfolds g K graph ↔ ZeroUnfolds g K graph
   zero-unfolds {K} {graph} = (
     λ x.
-    record {
-      event-count = x .event-count;
-      sources-count = x .sources-count;
-      targets-count = x .targets-count;
-      leasts-count = x .leasts-count;
-      mosts-count = x .mosts-count;
-      each =
-          λ k j lk lj.
-          let r = x .each k j lk lj in
-          record { from = r .from; to = r .to; from-number = r .from-number; to-number = r .to-number; instance = zero-instance lj .0 (r .instance) };
-    },
+        record {
+          event-count = x .event-count;
+          sources-count = x .sources-count;
+          targets-count = x .targets-count;
+          leasts-count = x .leasts-count;
+          mosts-count = x .mosts-count;
+          each =
+              λ k j lk lj.
+              let r = x .each k j lk lj in
+              record { from = r .from; to = r .to; from-number = r .from-number; to-number = r .to-number; instance = zero-instance lj .0 (r .instance) };
+        },
     λ x.
-    record {
-      event-count = x .event-count;
-      sources-count = x .sources-count;
-      targets-count = x .targets-count;
-      leasts-count = x .leasts-count;
-      mosts-count = x .mosts-count;
-      each =
-          λ k j lk lj.
-          let r = x .each k j lk lj in
-          record { from = r .from; to = r .to; from-number = r .from-number; to-number = r .to-number; instance = zero-instance lj .1 (r .instance) };
-    },
+        record {
+          event-count = x .event-count;
+          sources-count = x .sources-count;
+          targets-count = x .targets-count;
+          leasts-count = x .leasts-count;
+          mosts-count = x .mosts-count;
+          each =
+              λ k j lk lj.
+              let r = x .each k j lk lj in
+              record { from = r .from; to = r .to; from-number = r .from-number; to-number = r .to-number; instance = zero-instance lj .1 (r .instance) };
+        },
   )
 
   pub zero-delay-outside : {j : ℕ} → TemplateDelayOutside g j ↔ ZeroDelayOutside g j
   zero-delay-outside {j} = (
     λ x.
-    record {
-      is-template = x .is-template;
-      outside =
-          ⊎-elim (λ o. o)
-          (λ s.
-          let (low, high) = zero j (x .is-template) (s .0) in
-          absurd (zero-inside (subst₂ OutsideDelays low high (s .1))))
-          (x .outside);
-    },
+        record {
+          is-template = x .is-template;
+          outside =
+              ⊎-elim (λ o. o)
+              (λ s.
+              let (low, high) = zero j (x .is-template) (s .0) in
+              absurd (zero-inside (subst₂ OutsideDelays low high (s .1))))
+              (x .outside);
+        },
     λ x. record { is-template = x .is-template; outside = inl (x .outside) },
   )
 
