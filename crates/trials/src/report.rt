@@ -1,5 +1,5 @@
 // The worked tables of report UW-CSE-92-11-01, section 4, that can be rebuilt from its text: figure 5's. The others rest on delays that stand only in
-// their drawings, or on start delays that the unfolding doesn't have. Occurrence k of event i is event 1 + 5 k + i.
+// their drawings, or on start delays that it doesn't name. Occurrence k of event i is event 1 + 5 k + i.
 
 // Writes the greatest t(t) − t(s).
 fn gap(
@@ -42,6 +42,8 @@ fn figure_5() {
         &[1, 1, 0, 0, 0, 0, 0, 0, 0, 0],
         &[2, 2, 0, 0, 0, 0, 0, 0, 0, 0],
         &[1, 1, 0, 0, 0, 0, 1, 1, 1, 1],
+        &[0, 0, 0, 0, 0, 0, 0, 0, 0, 0],
+        &[0, 0, 0, 0, 0, 0, 0, 0, 0, 0],
         &mut sources,
         &mut targets,
         &mut leasts,

@@ -10,6 +10,7 @@ fn ask_unfolding(
     leasts: &[i64],
     mosts: &[i64],
     marks: &[usize],
+    starts: &[i64],
 ) {
     let mut out_sources = [99usize; 12];
     let mut out_targets = [99usize; 12];
@@ -23,6 +24,8 @@ fn ask_unfolding(
         leasts,
         mosts,
         marks,
+        starts,
+        starts,
         &mut out_sources,
         &mut out_targets,
         &mut out_leasts,
@@ -45,6 +48,8 @@ fn ask_counts(label: &[u8], p: usize, copies: usize) {
     let answer = processes::unfold(
         p,
         copies,
+        &[],
+        &[],
         &[],
         &[],
         &[],
@@ -74,7 +79,16 @@ fn ask_template(
 ) {
     crate::printing::text(label);
     crate::printing::text(b":");
-    ask_unfolding(p, copies, &[source], &[target], &[least], &[most], &[mark]);
+    ask_unfolding(
+        p,
+        copies,
+        &[source],
+        &[target],
+        &[least],
+        &[most],
+        &[mark],
+        &[0],
+    );
 }
 
 // "Fig 1": a→a [4, 10] mark 1, a→b [1, 1] mark 0, b→a [1, 1] mark 1, b→b [5, 20] mark 1.
@@ -88,6 +102,7 @@ fn figure_1() {
         &[4, 1, 1, 5],
         &[10, 1, 1, 20],
         &[1, 0, 1, 1],
+        &[0, 0, 0, 0],
     );
 }
 
@@ -120,9 +135,9 @@ fn refusals() {
     ask_template(b"wrong delay before mark", 1, 2, 0, 0, 1, 0, 2);
     ask_template(b"a mark 0 cycle is not refused here", 1, 2, 0, 0, 0, 1, 0);
     crate::printing::text(b"unknown event in template 1 after wrong delay in 0:");
-    ask_unfolding(2, 1, &[0, 2], &[1, 0], &[1, 0], &[0, 1], &[0, 0]);
+    ask_unfolding(2, 1, &[0, 2], &[1, 0], &[1, 0], &[0, 1], &[0, 0], &[0, 0]);
     crate::printing::text(b"a mark too few:");
-    ask_unfolding(2, 1, &[0, 1], &[1, 0], &[0, 0], &[1, 1], &[0]);
+    ask_unfolding(2, 1, &[0, 1], &[1, 0], &[0, 0], &[1, 1], &[0], &[0, 0]);
 }
 
 // All of these.

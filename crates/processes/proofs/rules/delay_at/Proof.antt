@@ -20,7 +20,7 @@ returns : tie.Need-returns
 returns c = unchanged _ _ _ _ _ (toZ-ofZ w64 _ (c .before .fits .delay)) (λ _ zero. let l = c .if1 .taken in omega arith)
 
 returns-2 : tie.Need-returns-2
-returns-2 c = started _ _ _ _ _ (toZ-ofZ w64 _ (c .before .before .fits .start)) (c .if2 .taken) (c .before .if1 .left)
+returns-2 c = started _ _ _ _ _ (toZ-ofZ w64 _ (c .before .before .fits .start)) (c .if2 .taken) (omega (arith, c .before .if1 .left))
 
 returns-3 : tie.Need-returns-3
 returns-3 c = unchanged _ _ _ _ _ (toZ-ofZ w64 _ (c .before .before .fits .delay)) (λ one _. c .if2 .left one)
