@@ -1,7 +1,4 @@
--- A rule binds both ways: its target comes at most its most delay after its source, and its source at most −(its least delay) after its target. Each of the
--- two is an arc, and times meet the rules where they meet every arc.
---     Arc g a b w        by some rule, b comes at most w after a
---     MeetsArcs g x      the numbers x meet every arc: whatever is added to all of them, they do
+-- Times meet the rules where they meet every arc.
 --     arcs-of            hard times meet every arc
 --     hard-of            numbers that meet every arc are hard times once the root is brought to 0
 --     hard-shifted       so are times that equal them but for that at the events
@@ -22,13 +19,7 @@ use Rattle.sequences.proofs.Below.{below-next}
 use Rattle.graphs.specs.Graph.{Graph, rules, source, target, least, most}
 use Rattle.graphs.specs.Limits.{EndsKept}
 use Rattle.hardtimes.specs.HardTimes.{HardTimes}
-
-pub data Arc (g : Graph) : ℕ → ℕ → ℤ → Type 0 where
-  forth : (i : ℕ) → i < rules g → Arc g (source g i) (target g i) (most g i)
-  back : (i : ℕ) → i < rules g → Arc g (target g i) (source g i) (negℤ (least g i))
-
-pub record MeetsArcs (g : Graph) (x : ℕ → ℤ) : Type 0 where
-  pub meets : {a b : ℕ} {w : ℤ} → Arc g a b w → x b ≤ℤ (x a +ℤ w)
+use Rattle.hardtimes.specs.Parts.Gaps.{Arc, forth, back, MeetsArcs}
 
 pub arcs-of : {g : Graph} {time : ℕ → ℤ} → HardTimes g time → MeetsArcs g time
 arcs-of {g} {time} hard = record { meets = at }

@@ -1,6 +1,5 @@
--- The latest gaps against s: numbers that meet every arc, are 0 at s, and are passed by no hard times. They are what the rounds end with.
---     LatestGaps g s x     x v is the greatest t(v) − t(s) over all hard times, for every event v
---     gap-separation       so it is
+-- The latest gaps against s are the greatest separations from s over all hard times, and what the rounds end with.
+--     gap-separation       a latest gap is the greatest separation
 --     gap-schedule         brought to 0 at the root they are the schedule
 --     latest-gaps          numbers that meet every arc and bound all hard times, and are not above 0 at s, are the latest gaps
 -- Assumes nothing.
@@ -12,12 +11,8 @@ use Rattle.integers.proofs.Integer.{linear, difference}
 use Rattle.graphs.specs.Graph.{Graph, rules, source, target}
 use Rattle.graphs.specs.Limits.{SoundGraph}
 use Rattle.hardtimes.specs.HardTimes.{HardTimes, HardSeparation, HardSchedule}
-use Rattle.hardtimes.proofs.Arcs.{MeetsArcs, hard-of, hard-shifted}
-
-pub record LatestGaps (g : Graph) (s : ℕ) (x : ℕ → ℤ) : Type 0 where
-  pub arcs : MeetsArcs g x
-  pub bound : (v : ℕ) → v < g .events → (time : ℕ → ℤ) → HardTimes g time → (time v -ℤ time s) ≤ℤ x v
-  pub at-s : x s ≡ pos 0
+use Rattle.hardtimes.specs.Parts.Gaps.{MeetsArcs, LatestGaps}
+use Rattle.hardtimes.proofs.Arcs.{hard-of, hard-shifted}
 
 module _ {g : Graph} (sound : SoundGraph g) {s : ℕ} {x : ℕ → ℤ} where
   pub latest-gaps : s < g .events → MeetsArcs g x → ((v : ℕ) → v < g .events → (time : ℕ → ℤ) → HardTimes g time → (time v -ℤ time s) ≤ℤ x v) → x s ≤ℤ pos 0 → LatestGaps g s x

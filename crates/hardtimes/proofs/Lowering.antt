@@ -20,9 +20,10 @@ use Rattle.graphs.specs.Graph.{Graph}
 use Rattle.graphs.specs.Limits.{EventGraph}
 use Rattle.graphs.proofs.Limits.{sound-of}
 use Rattle.hardtimes.specs.HardTimes.{HardTimes}
-use Rattle.hardtimes.proofs.Arcs.{Arc, MeetsArcs, arcs-of, arc-known, search-arcs, ≤ℤ-dec}
+use Rattle.hardtimes.specs.Parts.Gaps.{Arc, MeetsArcs, LatestGaps}
+use Rattle.hardtimes.proofs.Arcs.{arcs-of, arc-known, search-arcs, ≤ℤ-dec}
 use Rattle.hardtimes.proofs.Rules.{hard-within}
-use Rattle.hardtimes.proofs.Gaps.{LatestGaps, latest-gaps}
+use Rattle.hardtimes.proofs.Gaps.{latest-gaps}
 
 -- ---- one value changed
 

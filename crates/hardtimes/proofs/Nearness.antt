@@ -19,8 +19,8 @@ use Rattle.executions.specs.Separation.{SameRules, Near, DelaysNear}
 use Rattle.executions.proofs.Same.{rules-same, source-same, target-same, same-exchanged}
 use Rattle.executions.proofs.Nearness.{near-exchanged}
 use Rattle.hardtimes.specs.HardTimes.{HardTimes, HardSeparation, LeastHardSeparation, hardLimit}
-use Rattle.hardtimes.proofs.Arcs.{Arc, forth, back, arcs-of}
-use Rattle.hardtimes.proofs.Gaps.{LatestGaps, gap-separation}
+use Rattle.hardtimes.specs.Parts.Gaps.{Arc, forth, back, LatestGaps}
+use Rattle.hardtimes.proofs.Gaps.{gap-separation}
 use Rattle.hardtimes.proofs.Lowering.{gaps-exist}
 use Rattle.hardtimes.proofs.Tight.{Tight, here, on, TightWithin, tight-within}
 use Rattle.hardtimes.proofs.Unique.{least-hard-exchanged, exchanged-hard}

@@ -18,8 +18,8 @@ use Rattle.sequences.specs.Counted.{Counted}
 use Rattle.sequences.proofs.Counting.{Leaves, counted-all, counted-less, counted-none, counted-some}
 use Rattle.graphs.specs.Graph.{Graph}
 use Rattle.graphs.specs.Limits.{SoundGraph}
-use Rattle.hardtimes.proofs.Arcs.{Arc, MeetsArcs, hard-of, arc-known, search-arcs, ≤ℤ-dec}
-use Rattle.hardtimes.proofs.Gaps.{LatestGaps}
+use Rattle.hardtimes.specs.Parts.Gaps.{Arc, MeetsArcs, LatestGaps}
+use Rattle.hardtimes.proofs.Arcs.{hard-of, arc-known, search-arcs, ≤ℤ-dec}
 
 pub data Tight (g : Graph) (s : ℕ) (x : ℕ → ℤ) : ℕ → ℕ → Type 0 where
   here : Tight g s x 0 s
