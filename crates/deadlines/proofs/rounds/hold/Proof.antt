@@ -2,43 +2,29 @@
 use mathlib.Core.Path.{_≡_}
 use mathlib.Core.Bool.{true, false}
 use mathlib.Core.List.{List}
-use Prim.Native.Nat.{ℕ, _<_, _^_}
+use Prim.Native.Nat.{ℕ, _<_}
 use lib.Dec.{lit<}
 use lib.IntN.{ℤ, _+ℤ_}
-use lib.Signed.{ltZ, mag}
+use lib.Signed.{ltZ}
 use lib.ListN.{length, set}
 use mir.Syntax.{w64}
-use mir.Val.{SFits, hbits, toZ, ofZ}
+use mir.Val.{SFits, toZ, ofZ}
 use mir.ValLaws.{toZ-ofZ}
 use borrow.Author.Needs.{needs}
 use Rattle.integers.specs.Within.{Within}
 use Rattle.integers.proofs.Integer.{linear}
-use Rattle.integers.proofs.Word.{within-fits, read-back, within-sum}
 use Rattle.separation.specs.Promise.{at}
 use Rattle.deadlines.specs.Parts.Rounds.{CutOff, ArcHeld}
+use Rattle.deadlines.proofs.Words.{word-sum-fits, word-sum}
 use Rattle.deadlines.proofs.Holding.{arc-lowered, arc-kept}
 use Rattle.deadlines.proofs.rounds.hold.Statement.{statement}
 use Rattle.deadlines.proofs.rounds.hold.Tie as tie
-
--- ---- the sum of the numbers that the bits hold
-
-module _ (x w : ℤ) (h : Within 2046000001 x) (k : Within 1000000 w) where
-  sum-fits : SFits w64 (toZ w64 (ofZ w64 x) +ℤ toZ w64 (ofZ w64 w))
-  sum-fits = rw (read-back w64 2046000001 x (lit< tt) h, read-back w64 1000000 w (lit< tt) k) (within-fits w64 2047000001 (x +ℤ w) (lit< tt) (within-sum h k))
-
-  sum-back : toZ w64 (ofZ w64 (toZ w64 (ofZ w64 x) +ℤ toZ w64 (ofZ w64 w))) ≡ x +ℤ w
-  sum-back =
-      rw (
-        toZ-ofZ w64 (toZ w64 (ofZ w64 x) +ℤ toZ w64 (ofZ w64 w)) sum-fits,
-        read-back w64 2046000001 x (lit< tt) h,
-        read-back w64 1000000 w (lit< tt) k,
-      )
 
 -- ---- what the tests of the bits say of the numbers
 
 module _ (xs : List ℤ) (a b : ℕ) (w r : ℤ) (h : Within 2046000001 (at xs a)) (k : Within 1000000 w) (fits : SFits w64 r) (fits-b : SFits w64 (at xs b)) (cut : CutOff (toZ w64 (ofZ w64 (toZ w64 (ofZ w64 (at xs a)) +ℤ toZ w64 (ofZ w64 w)))) r) where
   cut-read : CutOff (at xs a +ℤ w) r
-  cut-read = rw (sum-back (at xs a) w h k) at cut
+  cut-read = rw (word-sum (lit< tt) h k) at cut
 
   lowered : b < length xs → ltZ (toZ w64 (ofZ w64 r)) (toZ w64 (ofZ w64 (at xs b))) ≡ true → ArcHeld a b w xs (set xs b (toZ w64 (ofZ w64 r))) true
   lowered room test =
@@ -59,7 +45,7 @@ slice-copy-out-cut-off : tie.Need-slice-copy-out-cut-off
 slice-copy-out-cut-off c = search needs
 
 add-cut-off : tie.Need-add-cut-off
-add-cut-off c = sum-fits _ _ (c .before .pre .3) (c .before .pre .2)
+add-cut-off c = word-sum-fits (lit< tt) (c .before .pre .3) (c .before .pre .2)
 
 cut-off-requires : tie.Need-cut-off-requires
 cut-off-requires c κs = search needs

@@ -4,29 +4,16 @@ use mathlib.Core.Bool.{Bool}
 use mathlib.Core.List.{List}
 use Prim.Native.Nat.{ℕ, _<_}
 use lib.Dec.{lit<}
-use lib.IntN.{ℤ, pos, negℤ, _-ℤ_}
+use lib.IntN.{ℤ}
 use mir.Syntax.{w64}
-use mir.Val.{SFits, toZ, ofZ}
 use borrow.Author.Needs.{needs}
 use Rattle.integers.specs.Within.{Within}
-use Rattle.integers.proofs.Integer.{linear, difference, negation}
-use Rattle.integers.proofs.Word.{within-fits, read-back, within-negation}
+use Rattle.integers.proofs.Word.{read-back, within-negation}
 use Rattle.deadlines.specs.Parts.Rounds.{ArcHeld}
+use Rattle.deadlines.proofs.Words.{word-minus-fits, word-minus}
 use Rattle.deadlines.proofs.Holding.{rule-forth, rule-back}
 use Rattle.deadlines.proofs.rounds.hold_rule.Statement.{statement}
 use Rattle.deadlines.proofs.rounds.hold_rule.Tie as tie
-
--- ---- minus the least delay, as the code forms it
-
-module _ (d : ℤ) (k : Within 1000000 d) where
-  minus : pos 0 -ℤ toZ w64 (ofZ w64 d) ≡ negℤ d
-  minus = let e : toZ w64 (ofZ w64 d) ≡ d = read-back w64 1000000 d (lit< tt) k in rw e (omega (linear, difference (pos 0) d, negation d))
-
-  minus-fits : SFits w64 (pos 0 -ℤ toZ w64 (ofZ w64 d))
-  minus-fits = rw minus (within-fits w64 1000000 (negℤ d) (lit< tt) (within-negation k))
-
-  minus-back : toZ w64 (ofZ w64 (pos 0 -ℤ toZ w64 (ofZ w64 d))) ≡ negℤ d
-  minus-back = rw minus (read-back w64 1000000 (negℤ d) (lit< tt) (within-negation k))
 
 -- an arc, with its weight read back
 read-arc : {a b : ℕ} {w x : ℤ} {xs ys : List ℤ} {f : Bool} → w ≡ x → ArcHeld a b w xs ys f → ArcHeld a b x xs ys f
@@ -38,7 +25,7 @@ hold-requires : tie.Need-hold-requires
 hold-requires c κs = search needs
 
 sub-hold : tie.Need-sub-hold
-sub-hold c = minus-fits _ (c .before .before .before .pre .0 .2)
+sub-hold c = word-minus-fits (lit< tt) (c .before .before .before .pre .0 .2)
 
 hold-requires-2 : tie.Need-hold-requires-2
 hold-requires-2 c κs =
@@ -46,7 +33,7 @@ hold-requires-2 c κs =
     let call = c .before .before .hold in (
       subst (λ (m : ℕ). start .args .target < m) (sym (call .kept .1 .1 .1 .0)) (start .pre .0 .1),
       subst (λ (m : ℕ). start .args .source < m) (sym (call .kept .1 .1 .1 .0)) (start .pre .0 .0),
-      subst (Within 1000000) (sym (minus-back _ (start .pre .0 .2))) (within-negation (start .pre .0 .2)),
+      subst (Within 1000000) (sym (word-minus (lit< tt) (start .pre .0 .2))) (within-negation (start .pre .0 .2)),
       call .ensures .within _ (start .pre .1 .1),
     )
 
@@ -56,7 +43,7 @@ same-length c = search needs
 returns : tie.Need-returns
 returns c =
     let start = c .before .before .before .before .before .before .before in
-    rule-forth (read-arc (read-back w64 1000000 _ (lit< tt) (start .pre .0 .3)) (c .before .before .before .before .before .hold .ensures)) (read-arc (minus-back _ (start .pre .0 .2)) (c .before .before .hold2 .ensures)) (c .if1 .taken)
+    rule-forth (read-arc (read-back w64 1000000 _ (lit< tt) (start .pre .0 .3)) (c .before .before .before .before .before .hold .ensures)) (read-arc (word-minus (lit< tt) (start .pre .0 .2)) (c .before .before .hold2 .ensures)) (c .if1 .taken)
 
 same-length-2 : tie.Need-same-length-2
 same-length-2 c = search needs
@@ -64,7 +51,7 @@ same-length-2 c = search needs
 returns-2 : tie.Need-returns-2
 returns-2 c =
     let start = c .before .before .before .before .before .before .before in
-    rule-back (read-arc (read-back w64 1000000 _ (lit< tt) (start .pre .0 .3)) (c .before .before .before .before .before .hold .ensures)) (read-arc (minus-back _ (start .pre .0 .2)) (c .before .before .hold2 .ensures)) (c .if1 .left)
+    rule-back (read-arc (read-back w64 1000000 _ (lit< tt) (start .pre .0 .3)) (c .before .before .before .before .before .hold .ensures)) (read-arc (word-minus (lit< tt) (start .pre .0 .2)) (c .before .before .hold2 .ensures)) (c .if1 .left)
 
 pub hold-rule-spec : {M : Type 1} → statement M
 hold-rule-spec = tie.close (tie.spec hold-requires sub-hold hold-requires-2 same-length returns same-length-2 returns-2)
