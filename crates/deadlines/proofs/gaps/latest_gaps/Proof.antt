@@ -58,7 +58,7 @@ same-length : tie.Need-same-length
 same-length c = search needs
 
 returns-2 : tie.Need-returns-2
-returns-2 c = 
+returns-2 c =
     let call = c .before .before .before .before .before .before .before .before .before .before .before .before .schedule in
     let zero = c .before .before .before .before .before .before .before .before .if1 .left in
     let found = call .ensures .0 .found zero in
@@ -68,7 +68,7 @@ same-length-2 : tie.Need-same-length-2
 same-length-2 c = search needs
 
 returns-3 : tie.Need-returns-3
-returns-3 c = 
+returns-3 c =
     let call = c .before .before .before .before .before .before .before .before .before .before .before .before .schedule in
     let zero = c .before .before .before .before .before .before .before .before .if1 .left in
     let found = call .ensures .0 .found zero in
