@@ -35,7 +35,7 @@ fn latest_gaps(
 {
     let mut times = [0i64; 1024];
     let mut delays = [0i64; 4096];
-    let found = separation::schedule(
+    let ordinary = separation::schedule(
         n,
         sources,
         targets,
@@ -46,10 +46,10 @@ fn latest_gaps(
         &mut times,
         &mut delays,
     );
-    if found.refusal != 0 {
+    if ordinary.refusal != 0 {
         return Gaps {
-            refusal: found.refusal,
-            place: found.place,
+            refusal: ordinary.refusal,
+            place: ordinary.place,
             source_depth: 0,
             target_depth: 0,
         };
@@ -66,8 +66,8 @@ fn latest_gaps(
     Gaps {
         refusal: 0,
         place: 0,
-        source_depth: found.source_depth,
-        target_depth: found.target_depth,
+        source_depth: ordinary.source_depth,
+        target_depth: ordinary.target_depth,
     }
 }
 

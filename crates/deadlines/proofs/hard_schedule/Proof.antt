@@ -65,8 +65,9 @@ write-gaps-requires : tie.Need-write-gaps-requires
 write-gaps-requires c κs =
     let call = c .before .before .before .before .before .both-ends in
     let zero = c .before .before .if3 .left in
-    let counts = call .ensures .answer .found zero .graph .sized .counts in (
-      (counts .some-event, omega (arith, call .kept .1 .1 .1 .1 .1 .1 .1 .0, counts .few-events), first-long (roomy (c .before .before .before .before .before .before .before))),
+    let found = call .ensures .answer .found zero in
+    let counts = found .graph .sized .counts in (
+      (omega (arith, counts .some-event, found .source-known), omega (arith, call .kept .1 .1 .1 .1 .1 .1 .1 .0, counts .few-events), first-long (roomy (c .before .before .before .before .before .before .before))),
       call .ensures .within zero,
     )
 
