@@ -4,5 +4,5 @@ pub mod Holding
 pub mod Settling
 pub mod Verdicts
 pub mod Answers
-pub mod Listed
 pub mod Promises
+pub mod Writing

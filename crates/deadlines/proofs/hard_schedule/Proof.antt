@@ -12,7 +12,7 @@ use borrow.Author.Tests.{ltb-true, ltb-false}
 use Rattle.sequences.proofs.Lengths.{first-long, second-long}
 use Rattle.deadlines.proofs.Verdicts.{short-refused}
 use Rattle.deadlines.proofs.Answers.{answered-alone, answered-short}
-use Rattle.deadlines.proofs.Listed.{lists-refused, lists-short, rule-timed, lists-written}
+use Rattle.deadlines.proofs.Writing.{lists-refused, lists-short, rule-timed, lists-written}
 use Rattle.deadlines.proofs.hard_schedule.Statement.{statement}
 use Rattle.deadlines.proofs.hard_schedule.Tie as tie
 

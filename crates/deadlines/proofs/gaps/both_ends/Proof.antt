@@ -48,19 +48,20 @@ latest-gaps-requires-2 : tie.Need-latest-gaps-requires-2
 latest-gaps-requires-2 c κs = search needs
 
 mul-t17 : tie.Need-mul-t17
-mul-t17 c = let s = near (c .before .before .before .before .before .before .latest-gaps .ensures) (c .before .before .before .if1 .left) in record { fits = omega (arith, s .0) }
+mul-t17 c = let s = near (c .before .before .before .before .before .before .latest-gaps .ensures) (c .before .before .before .if1 .left) in record { fits = omega (arith, s .0, s .1) }
 
 array-copy-out-t20 : tie.Need-array-copy-out-t20
-array-copy-out-t20 c = near (c .before .before .before .before .before .before .latest-gaps .ensures) (c .before .before .before .if1 .left) .0
+array-copy-out-t20 c = let s = near (c .before .before .before .before .before .before .latest-gaps .ensures) (c .before .before .before .if1 .left) in omega (arith, s .0, s .1)
 
 sub-t21 : tie.Need-sub-t21
 sub-t21 c = word-minus-fits (lit< tt) (back-small (c .before .before .before .before .before .before .before .latest-gaps .ensures) (c .before .before .before .before .if1 .left) (c .before .before .latest-gaps2 .ensures))
 
 mul-t22 : tie.Need-mul-t22
-mul-t22 c = let s = near (c .before .before .before .before .before .before .before .latest-gaps .ensures) (c .before .before .before .before .if1 .left) in record { fits = omega (arith, s .1) }
+mul-t22 c = let s = near (c .before .before .before .before .before .before .before .latest-gaps .ensures) (c .before .before .before .before .if1 .left) in record { fits = omega (arith, s .0, s .1) }
 
 slice-copy-out-t24 : tie.Need-slice-copy-out-t24
-slice-copy-out-t24 c = let call = c .before .before .before .before .before .before .before .latest-gaps in omega (arith, near (call .ensures) (c .before .before .before .before .if1 .left) .1, call .kept .1 .1 .1 .1 .1 .1 .1 .0, c .before .before .before .before .before .before .before .before .before .before .before .pre)
+slice-copy-out-t24 c = let call = c .before .before .before .before .before .before .before .latest-gaps in let s = near (call .ensures) (c .before .before .before .before .if1 .left) in
+    omega (arith, s .0, s .1, call .kept .1 .1 .1 .1 .1 .1 .1 .0, c .before .before .before .before .before .before .before .before .before .before .before .pre)
 
 same-length-2 : tie.Need-same-length-2
 same-length-2 c = search needs

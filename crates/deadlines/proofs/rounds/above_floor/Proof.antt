@@ -4,7 +4,7 @@ use mathlib.Core.Bool.{true, false, true≢false}
 use Prim.Native.Nat.{_-_}
 use native.Mathlib.Omega.{arith}
 use lib.IntN.{ℤ}
-use lib.Signed.{_≤ℤ_, _<ℤ_, leZ}
+use lib.Signed.{_≤ℤ_, _<ℤ_}
 use mir.Val.{SFits, toZ, ofZ}
 use mir.ValLaws.{toZ-ofZ}
 use Rattle.integers.proofs.Integer.{linear}
@@ -16,11 +16,12 @@ use Rattle.deadlines.specs.Parts.Rounds.{floor}
 use Rattle.deadlines.proofs.rounds.above_floor.Statement.{statement}
 use Rattle.deadlines.proofs.rounds.above_floor.Tie as tie
 
-floor-cut : (x : ℤ) → SFits w64 x → leZ (toZ w64 (ofZ w64 x)) floor ≡ true → x ≤ℤ floor
-floor-cut x f test = let t : leZ x floor ≡ true = rw (toZ-ofZ w64 x f) at test in omega linear
+-- what is said of a word read back is said of the number
+at-most : (x : ℤ) → SFits w64 x → toZ w64 (ofZ w64 x) ≤ℤ floor → x ≤ℤ floor
+at-most x f l = rw (toZ-ofZ w64 x f) at l
 
-floor-passed : (x : ℤ) → SFits w64 x → leZ (toZ w64 (ofZ w64 x)) floor ≡ false → floor <ℤ x
-floor-passed x f test = let t : leZ x floor ≡ false = rw (toZ-ofZ w64 x f) at test in omega linear
+above : (x : ℤ) → SFits w64 x → floor <ℤ toZ w64 (ofZ w64 x) → floor <ℤ x
+above x f l = rw (toZ-ofZ w64 x f) at l
 
 abbrev Inv-loop : tie.InvT-loop
 Inv-loop n numbers v₀ v = Passed n (λ u. floor <ℤ at numbers u) v
@@ -42,7 +43,7 @@ returns c =
     let at-v = c .before .before .before .loop .v in
     record {
       above = λ e. absurd (true≢false (sym e));
-      cut-off = λ _. (at-v, c .before .before .loop-test .taken, floor-cut _ (record { sfits = c .before .if12 .given }) (c .if1 .taken));
+      cut-off = λ _. (at-v, c .before .before .loop-test .taken, at-most _ (record { sfits = c .before .if12 .given }) (omega (linear, c .if1 .taken)));
     }
 
 add-v : tie.Need-add-v Inv-loop μ-loop
@@ -54,7 +55,7 @@ loop-less c = omega arith
 loop-again : tie.Need-loop-again Inv-loop μ-loop
 loop-again c =
     let b = c .before .before .before in
-    passed-more _ _ (b .loop .v) (b .loop .inv) (c .before .before .loop-test .taken) (floor-passed _ (record { sfits = c .before .if12 .given }) (c .if1 .left))
+    passed-more _ _ (b .loop .v) (b .loop .inv) (c .before .before .loop-test .taken) (above _ (record { sfits = c .before .if12 .given }) (omega (linear, c .if1 .left)))
 
 returns-2 : tie.Need-returns-2 Inv-loop μ-loop
 returns-2 c =
