@@ -131,7 +131,13 @@ fn binds(rule: &Rule, times: &[i64]) -> bool {
 }
 
 /// What is wrong with a written schedule under hard deadlines, if anything. `greatest` is the row of s, over the times that meet every rule.
-pub fn hard_schedule_fault(rules: &[Rule], s: usize, greatest: &[i64], times: &[i64], delays: &[i64]) -> Option<String> {
+pub fn hard_schedule_fault(
+    rules: &[Rule],
+    s: usize,
+    greatest: &[i64],
+    times: &[i64],
+    delays: &[i64],
+) -> Option<String> {
     if times[0] != 0 {
         return Some("the root isn't at 0".to_string());
     }

@@ -6,8 +6,8 @@
 //! how many were compared of each kind and how many differ, the first ten in full. Exit status 1: some differ; 2: it was called wrongly.
 
 use crankforest_tests::all_delays::{
-    choices, depths, greatest, hard_greatest, hard_schedule_fault, outward, refusal, schedule_fault, unfolding, Form, Given,
-    GivenProcess, Rule,
+    choices, depths, greatest, hard_greatest, hard_schedule_fault, outward, refusal, schedule_fault, unfolding, Form,
+    Given, GivenProcess, Rule,
 };
 use crankforest_tests::library::{self, lent_list, Answer, HardAnswer, Rules, Templates, Unfolded, Written, BEHIND};
 use crankforest_tests::random::Random;

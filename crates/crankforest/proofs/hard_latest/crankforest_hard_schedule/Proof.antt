@@ -15,7 +15,11 @@ same-length-2 : tie.Need-same-length-2
 same-length-2 c = search needs
 
 returns : tie.Need-returns
-returns c = ?
+returns c =
+    let call = c .before .before .before .before .hard-schedule in
+    let low = toZ-ofZ w64 (call .result .least) (record { sfits = search (c .before .struct-told .given) }) in
+    let high = toZ-ofZ w64 (call .result .most) (record { sfits = search (c .struct-told2 .given) }) in
+    (rw (low, high) (call .ensures .0), rw (low, high) (call .ensures .1))
 
 pub crankforest-hard-schedule-spec : {M : Type 1} → statement M
 crankforest-hard-schedule-spec = tie.close (tie.spec hard-schedule-requires same-length same-length-2 returns)
