@@ -46,7 +46,8 @@ fn hold_rule(source: usize, target: usize, least: i64, most: i64, numbers: &mut 
     ensures { λ r. ⌜ RuleHeld source target least most (now (numbers .entry)) (now (numbers .exit)) r ⌝ }
 {
     let forth = hold(source, target, most, numbers);
-    let back = hold(target, source, -least, numbers);
+    let weight = -least;
+    let back = hold(target, source, weight, numbers);
     if forth {
         return true;
     }

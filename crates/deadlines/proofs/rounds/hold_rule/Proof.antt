@@ -24,16 +24,18 @@ read-arc {a} {b} {xs = xs} {ys = ys} {f = f} e h = subst (λ (w : ℤ). ArcHeld 
 hold-requires : tie.Need-hold-requires
 hold-requires c κs = search needs
 
-sub-hold : tie.Need-sub-hold
-sub-hold c = word-minus-fits (lit< tt) (c .before .before .before .pre .0 .2)
+sub-weight : tie.Need-sub-weight
+sub-weight c = word-minus-fits (lit< tt) (c .before .before .before .pre .0 .2)
 
 hold-requires-2 : tie.Need-hold-requires-2
 hold-requires-2 c κs =
     let start = c .before .before .before .before in
-    let call = c .before .before .hold in (
+    let call = c .before .before .hold in
+    let weight-within = subst (Within 1000000) (sym (word-minus (lit< tt) (start .pre .0 .2))) (within-negation (start .pre .0 .2)) in
+    let most-within = subst (Within 1000000) (sym (read-back w64 1000000 (start .args .most) (lit< tt) (start .pre .0 .3))) (start .pre .0 .3) in (
       subst (λ (m : ℕ). start .args .target < m) (sym (call .kept .1 .1 .1 .0)) (start .pre .0 .1),
       subst (λ (m : ℕ). start .args .source < m) (sym (call .kept .1 .1 .1 .0)) (start .pre .0 .0),
-      subst (Within 1000000) (sym (word-minus (lit< tt) (start .pre .0 .2))) (within-negation (start .pre .0 .2)),
+      search (weight-within, most-within),
       call .ensures .within _ (start .pre .1 .1),
     )
 
@@ -54,4 +56,4 @@ returns-2 c =
     rule-back (read-arc (read-back w64 1000000 _ (lit< tt) (start .pre .0 .3)) (c .before .before .before .before .before .hold .ensures)) (read-arc (word-minus (lit< tt) (start .pre .0 .2)) (c .before .before .hold2 .ensures)) (c .if1 .left)
 
 pub hold-rule-spec : {M : Type 1} → statement M
-hold-rule-spec = tie.close (tie.spec hold-requires sub-hold hold-requires-2 same-length returns same-length-2 returns-2)
+hold-rule-spec = tie.close (tie.spec hold-requires sub-weight hold-requires-2 same-length returns same-length-2 returns-2)
