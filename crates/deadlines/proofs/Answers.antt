@@ -14,7 +14,6 @@ use Prim.Native.Nat.{ℕ, _<_}
 use native.Mathlib.Omega.{arith}
 use lib.IntN.{ℤ, pos, negℤ}
 use lib.ListN.{length}
-use Rattle.integers.specs.Within.{Within}
 use Rattle.integers.proofs.Integer.{linear}
 use Rattle.integers.proofs.Word.{within-wider}
 use Rattle.sequences.specs.Filled.{Filled}
@@ -25,17 +24,17 @@ use Rattle.executions.specs.Separation.{Separation}
 use Rattle.executions.specs.Schedule.{Schedule}
 use Rattle.executions.proofs.Sizes.{times-within, exact-size}
 use Rattle.executions.proofs.Unique.{same-event}
-use Rattle.hardtimes.specs.HardTimes.{HardTimes, NoHardTimes, HardSeparation, LeastHardSeparation}
+use Rattle.hardtimes.specs.HardTimes.{HardSeparation, LeastHardSeparation}
 use Rattle.hardtimes.specs.Parts.Gaps.{LatestGaps}
 use Rattle.hardtimes.proofs.Arcs.{hard-of}
 use Rattle.hardtimes.proofs.Rules.{hard-gap}
 use Rattle.hardtimes.proofs.Gaps.{gap-separation}
 use Rattle.hardtimes.proofs.Unique.{least-hard-exchanged}
 use Rattle.separation.specs.declared.Answer.{Answer}
-use Rattle.separation.specs.Promise.{ShortLists, Answered, Written, Found, at}
+use Rattle.separation.specs.Promise.{ShortLists, Answered, Found, at}
 use Rattle.deadlines.specs.declared.gaps.Gaps.{Gaps}
 use Rattle.deadlines.specs.declared.HardAnswer.{HardAnswer}
-use Rattle.deadlines.specs.Promise.{HardVerdict, HardFound, HardNothing, HardAnswered}
+use Rattle.deadlines.specs.Promise.{HardVerdict, HardNothing, HardAnswered}
 use Rattle.deadlines.specs.Parts.Rounds.{NumbersWithin}
 use Rattle.deadlines.specs.Parts.Lists.{GapAt}
 use Rattle.deadlines.specs.Parts.Gaps.{Starts, Settled, GapsFound, GapsAnswered, EndsAnswered}

@@ -9,7 +9,7 @@ use mathlib.Core.Path.{_≡_, refl, sym, subst, _∙_}
 use mathlib.Core.Bool.{Bool, true, false, true≢false}
 use mathlib.Core.Logic.{_⊎_, inl, inr, ⊎-elim}
 use mathlib.Core.List.{List}
-use Prim.Native.Nat.{ℕ, suc, _+_, _<_}
+use Prim.Native.Nat.{ℕ, _+_, _<_}
 use native.Mathlib.Decide.{ℕ-discrete}
 use native.Mathlib.Nat.{not-suc-le-zero}
 use native.Mathlib.Omega.{arith}
@@ -19,11 +19,11 @@ use lib.ListN.{length, set}
 use lib.Seq.{getD-set-same, getD-set-other}
 use borrow.Author.Count.{below-more}
 use Rattle.integers.specs.Within.{Within}
-use Rattle.integers.proofs.Integer.{P, N, linear, sum, negation}
-use Rattle.graphs.specs.Graph.{Graph, rules, source, target, least, most}
+use Rattle.integers.proofs.Integer.{linear, sum}
+use Rattle.graphs.specs.Graph.{Graph, source, target, least, most}
 use Rattle.graphs.specs.Limits.{EndsKept}
 use Rattle.separation.specs.Promise.{at}
-use Rattle.deadlines.specs.Parts.Rounds.{floor, Below, NumbersWithin, CutOff, ArcHeld, Meets, RuleHeld, RulesHeld}
+use Rattle.deadlines.specs.Parts.Rounds.{floor, Below, NumbersWithin, CutOff, ArcHeld, RuleHeld, RulesHeld}
 
 pub cut-down : (x : ℤ) → ltZ x floor ≡ true → CutOff x floor
 cut-down x e = record { not-below = omega linear; floored = omega linear; one = inr refl }

@@ -7,22 +7,22 @@
 --     within-ordinary         the most is never above the ordinary maximum, and the least never below the ordinary least
 --     hard-answers-near, hard-leasts-near    "the maxima differ by at most e × (n − 1)", and the least ones
 -- Assumes nothing.
-use mathlib.Core.Path.{_≡_, refl, sym, subst, _∙_}
+use mathlib.Core.Path.{_≡_, sym, subst, _∙_}
 use mathlib.Core.Logic.{_↔_}
-use mathlib.Core.List.{List, [], _∷_}
+use mathlib.Core.List.{List}
 use Prim.Native.Nat.{ℕ, _<_}
 use native.Mathlib.Decide.{ℕ-discrete}
 use native.Mathlib.Omega.{arith}
-use lib.IntN.{ℤ, pos, negℤ, _-ℤ_}
+use lib.IntN.{ℤ, pos}
 use lib.Signed.{_≤ℤ_}
-use Rattle.integers.proofs.Integer.{linear, negation}
+use Rattle.integers.proofs.Integer.{linear}
 use Rattle.sequences.proofs.Same.{same-places}
 use Rattle.graphs.specs.Graph.{Graph, rules}
 use Rattle.graphs.specs.Limits.{EventGraph}
 use Rattle.graphs.proofs.Limits.{sound-of}
 use Rattle.graphs.proofs.Unique.{depth-unique}
 use Rattle.executions.specs.Separation.{Separation, LeastSeparation, SameRules, Near, DelaysNear}
-use Rattle.hardtimes.specs.HardTimes.{NoHardTimes, HardSeparation, hardLimit}
+use Rattle.hardtimes.specs.HardTimes.{NoHardTimes, hardLimit}
 use Rattle.hardtimes.proofs.Rules.{hard-not-above, delaysOf, hard-executes}
 use Rattle.hardtimes.proofs.Nearness.{hard-near, hard-least-near}
 use Rattle.hardtimes.proofs.Unique.{hard-separation-unique, least-hard-unique, least-not-above, hard-times-unique, hard-delays-unique}

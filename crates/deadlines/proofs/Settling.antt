@@ -10,19 +10,19 @@
 -- another round can't lower one. Hard times lie above the floor by 01's sizes, so no number that is cut off is one of theirs. Assumes nothing.
 use mathlib.Core.Path.{_≡_, refl, sym, subst}
 use mathlib.Core.Bool.{Bool, true, false, true≢false}
-use mathlib.Core.Logic.{_⊎_, inl, inr, ⊎-elim}
+use mathlib.Core.Logic.{_⊎_, ⊎-elim}
 use mathlib.Core.List.{List}
-use Prim.Native.Nat.{ℕ, suc, _+_, _-_, _<_, _≤_}
+use Prim.Native.Nat.{ℕ, suc, _+_, _<_, _≤_}
 use native.Mathlib.Omega.{arith}
 use lib.IntN.{ℤ, pos, negℤ, _+ℤ_, _-ℤ_}
 use lib.Signed.{_≤ℤ_, _<ℤ_}
 use lib.ListN.{length}
-use Rattle.integers.proofs.Integer.{P, N, linear, sum, difference, negation}
+use Rattle.integers.proofs.Integer.{linear, sum, difference}
 use Rattle.graphs.specs.Graph.{Graph, rules, source, target, least, most}
 use Rattle.graphs.specs.Limits.{EventGraph}
 use Rattle.graphs.proofs.Limits.{sound-of}
 use Rattle.hardtimes.specs.HardTimes.{HardTimes, NoHardTimes}
-use Rattle.hardtimes.specs.Parts.Gaps.{Arc, forth, back, MeetsArcs, LatestGaps}
+use Rattle.hardtimes.specs.Parts.Gaps.{Arc, forth, back, LatestGaps}
 use Rattle.hardtimes.proofs.Arcs.{arcs-of}
 use Rattle.hardtimes.proofs.Rules.{hard-within}
 use Rattle.hardtimes.proofs.Gaps.{gap-separation, latest-gaps}

@@ -7,7 +7,7 @@
 --     hard-short              "too short" may be said in two ways
 --     refused-10, accepted-0  where the analysis refuses nothing, 10 is given where there are no hard times, and nothing is refused where there are some
 -- Assumes nothing.
-use mathlib.Core.Path.{_≡_, refl}
+use mathlib.Core.Path.{_≡_}
 use mathlib.Core.Logic.{_⊎_, inl, inr, ⊎-elim}
 use mathlib.Core.List.{List, [], _∷_}
 use Prim.Native.Nat.{ℕ, _<_}
@@ -15,8 +15,8 @@ use native.Mathlib.Omega.{arith}
 use lib.IntN.{ℤ}
 use lib.ListN.{length}
 use Rattle.verdicts.specs.Verdict.{check, AtZero, Lowest, FirstThen, FirstOf, given, passed}
-use Rattle.verdicts.proofs.Verdicts.{OneVerdict, NoneApplies, at-zero, at-zero-unique, one-verdict, then-unique, passed-all, then-more, front-given, accepted-none, none-accepted, more-alike, alike-refl, then-alike}
-use Rattle.graphs.specs.Graph.{Graph, rules}
+use Rattle.verdicts.proofs.Verdicts.{NoneApplies, at-zero, at-zero-unique, one-verdict, then-unique, passed-all, then-more, front-given, accepted-none, none-accepted, more-alike, alike-refl, then-alike}
+use Rattle.graphs.specs.Graph.{Graph}
 use Rattle.graphs.specs.Path.{HasCycle}
 use Rattle.graphs.specs.Limits.{EventGraph}
 use Rattle.graphs.specs.Refusal.{CountsOutside, many-events, many-rules, UnknownEvent, DelayOutside, MissingEnd, Unreached, questionChecks, pathChecks}

@@ -13,16 +13,13 @@ use lib.ListN.{length, getD}
 use Rattle.integers.specs.Within.{Within}
 use Rattle.integers.proofs.Word.{within-difference}
 use Rattle.sequences.specs.Filled.{Filled}
-use Rattle.graphs.specs.Graph.{Graph, graphOf, rules}
-use Rattle.graphs.specs.Limits.{EventGraph}
+use Rattle.graphs.specs.Graph.{Graph, graphOf}
 use Rattle.graphs.proofs.Limits.{sound-of}
-use Rattle.hardtimes.specs.Parts.Gaps.{LatestGaps}
 use Rattle.hardtimes.proofs.Gaps.{gap-schedule}
 use Rattle.separation.specs.declared.Answer.{Answer}
 use Rattle.separation.specs.Promise.{Written, at}
 use Rattle.deadlines.specs.declared.HardAnswer.{HardAnswer}
-use Rattle.deadlines.specs.Promise.{HardWritten, HardAnswered}
-use Rattle.deadlines.specs.Parts.Rounds.{NumbersWithin}
+use Rattle.deadlines.specs.Promise.{HardWritten}
 use Rattle.deadlines.specs.Parts.Lists.{GapAt, DifferenceAt, RuleTimed}
 use Rattle.deadlines.specs.Parts.Gaps.{EndsAnswered}
 

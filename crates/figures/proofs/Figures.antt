@@ -9,7 +9,7 @@ use Rattle.figures.specs.Figures.{P1, P2, P3, P4, P5, P6, P7, P8, P9, P1
 use Rattle.figures.proofs.Certificate.{Certificate, MaybeM}
 use Rattle.figures.proofs.Certificate.MaybeM.{absent, m-is}
 use Rattle.figures.proofs.Passed.{separation-passed, limit-passed, passed}
-use Rattle.figures.proofs.HardWays.{Turn, on, hard-passed}
+use Rattle.figures.proofs.HardWays.{on, hard-passed}
 use Rattle.figures.proofs.Unfoldings.{unfolds-to}
 
 abbrev certificate : List ℕ → List MaybeM → List ℤ → Certificate

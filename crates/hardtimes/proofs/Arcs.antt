@@ -12,9 +12,9 @@ use mathlib.Core.Logic.{_⊎_, inl, inr}
 use Prim.Native.Nat.{ℕ, zero, suc, _<_, _≤_}
 use native.Mathlib.Nat.{not-suc-le-zero}
 use native.Mathlib.Omega.{arith}
-use lib.IntN.{ℤ, pos, negℤ, _+ℤ_, _-ℤ_}
+use lib.IntN.{ℤ, negℤ, _+ℤ_, _-ℤ_}
 use lib.Signed.{_≤ℤ_, leZ}
-use Rattle.integers.proofs.Integer.{P, N, linear, sum, difference, negation}
+use Rattle.integers.proofs.Integer.{linear, sum, difference, negation}
 use Rattle.sequences.proofs.Below.{below-next}
 use Rattle.graphs.specs.Graph.{Graph, rules, source, target, least, most}
 use Rattle.graphs.specs.Limits.{EndsKept}

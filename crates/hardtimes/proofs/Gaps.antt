@@ -3,7 +3,7 @@
 --     gap-schedule         brought to 0 at the root they are the schedule
 --     latest-gaps          numbers that meet every arc and bound all hard times, and are not above 0 at s, are the latest gaps
 -- Assumes nothing.
-use mathlib.Core.Path.{_≡_, refl}
+use mathlib.Core.Path.{_≡_}
 use Prim.Native.Nat.{ℕ, _<_}
 use lib.IntN.{ℤ, pos, _-ℤ_}
 use lib.Signed.{_≤ℤ_}

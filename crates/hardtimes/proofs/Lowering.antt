@@ -10,7 +10,7 @@
 use mathlib.Core.Path.{_≡_, refl, subst}
 use mathlib.Core.Logic.{_⊎_, inl, inr}
 use Prim.Native.Nat.{ℕ, zero, suc, _+_, _*_, _<_, _≤_}
-use native.Mathlib.Decide.{ℕ-discrete, decLt}
+use native.Mathlib.Decide.{ℕ-discrete}
 use native.Mathlib.Nat.{not-suc-le-zero, le-refl}
 use native.Mathlib.Omega.{arith}
 use lib.IntN.{ℤ, pos, negsuc, _+ℤ_, _-ℤ_}
@@ -20,7 +20,7 @@ use Rattle.graphs.specs.Graph.{Graph}
 use Rattle.graphs.specs.Limits.{EventGraph}
 use Rattle.graphs.proofs.Limits.{sound-of}
 use Rattle.hardtimes.specs.HardTimes.{HardTimes}
-use Rattle.hardtimes.specs.Parts.Gaps.{Arc, MeetsArcs, LatestGaps}
+use Rattle.hardtimes.specs.Parts.Gaps.{Arc, LatestGaps}
 use Rattle.hardtimes.proofs.Arcs.{arcs-of, arc-known, search-arcs, ≤ℤ-dec}
 use Rattle.hardtimes.proofs.Rules.{hard-within}
 use Rattle.hardtimes.proofs.Gaps.{latest-gaps}

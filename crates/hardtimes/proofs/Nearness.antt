@@ -5,7 +5,7 @@
 --     hard-least-near  and the least ones
 -- Along the arcs that lead from s to t (`tight-within`) the maximum of one graph is a sum of at most n − 1 weights, and hard times of the other pass each by
 -- at most e. Assumes nothing.
-use mathlib.Core.Path.{_≡_, refl, ap, subst}
+use mathlib.Core.Path.{_≡_, ap, subst}
 use Prim.Native.Nat.{ℕ, suc, _*_, _<_, _≤_}
 use native.Mathlib.Nat.{mul-le-mul-left, mul-suc}
 use native.Mathlib.Omega.{arith}
@@ -19,11 +19,11 @@ use Rattle.executions.specs.Separation.{SameRules, Near, DelaysNear}
 use Rattle.executions.proofs.Same.{rules-same, source-same, target-same, same-exchanged}
 use Rattle.executions.proofs.Nearness.{near-exchanged}
 use Rattle.hardtimes.specs.HardTimes.{HardTimes, HardSeparation, LeastHardSeparation, hardLimit}
-use Rattle.hardtimes.specs.Parts.Gaps.{Arc, forth, back, LatestGaps}
+use Rattle.hardtimes.specs.Parts.Gaps.{Arc, forth, back}
 use Rattle.hardtimes.proofs.Gaps.{gap-separation}
 use Rattle.hardtimes.proofs.Lowering.{gaps-exist}
-use Rattle.hardtimes.proofs.Tight.{Tight, here, on, TightWithin, tight-within}
-use Rattle.hardtimes.proofs.Unique.{least-hard-exchanged, exchanged-hard}
+use Rattle.hardtimes.proofs.Tight.{Tight, here, on, tight-within}
+use Rattle.hardtimes.proofs.Unique.{exchanged-hard}
 
 module _ {g h : Graph} (same : SameRules g h) (e : ℕ) (near : DelaysNear e g h) {time : ℕ → ℤ} (hard : HardTimes h time) where
   arc-near : {a b : ℕ} {w : ℤ} → Arc g a b w → time b ≤ℤ (time a +ℤ (w +ℤ pos e))

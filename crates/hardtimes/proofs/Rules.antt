@@ -4,13 +4,13 @@
 --     hard-gap            nor is any of theirs
 --     hard-within         and they have 01's sizes
 -- Every rule reaches its target exactly, so the time of an event is the greatest arrival, whichever rule is looked at. Assumes nothing.
-use mathlib.Core.Path.{_≡_, refl, ap}
+use mathlib.Core.Path.{_≡_, ap}
 use Prim.Native.Nat.{ℕ, _*_, _<_}
 use lib.IntN.{ℤ, _+ℤ_, _-ℤ_}
 use lib.Signed.{_≤ℤ_}
 use Rattle.integers.specs.Within.{Within}
 use Rattle.integers.proofs.Integer.{linear, sum, difference}
-use Rattle.graphs.specs.Graph.{Graph, rules, source, target, Greatest}
+use Rattle.graphs.specs.Graph.{Graph, source, target, Greatest}
 use Rattle.graphs.specs.Limits.{SoundGraph, EventGraph}
 use Rattle.graphs.proofs.Limits.{sound-of}
 use Rattle.graphs.proofs.Greatest.{incoming}

@@ -13,7 +13,7 @@ use lib.Signed.{_≤ℤ_}
 use Rattle.integers.proofs.Integer.{linear, difference, negation}
 use Rattle.graphs.specs.Graph.{Graph, rules, source, target}
 use Rattle.graphs.specs.Limits.{SoundGraph}
-use Rattle.hardtimes.specs.HardTimes.{HardTimes, HardSeparation, LeastHardSeparation, HardSchedule}
+use Rattle.hardtimes.specs.HardTimes.{HardSeparation, LeastHardSeparation, HardSchedule}
 
 module _ {g : Graph} {s t : ℕ} where
   not-above : {x y : ℤ} → HardSeparation g s t x → HardSeparation g s t y → x ≤ℤ y

@@ -5,7 +5,7 @@ use lib.Dec.{lit<}
 use lib.IntN.{pos}
 use lib.ListN.{length}
 use mir.Syntax.{w64}
-use borrow.Author.Needs.{scaled-fits, needs}
+use borrow.Author.Needs.{scaled-fits}
 use Rattle.integers.proofs.Word.{difference-fits, difference-back}
 use Rattle.sequences.proofs.Filling.{Filling, filling-none, filling-more, filling-done}
 use Rattle.deadlines.specs.Parts.Lists.{DifferenceAt, RuleTimed}

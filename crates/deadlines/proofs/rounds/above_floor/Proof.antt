@@ -1,5 +1,5 @@
 -- `above_floor` meets its contract: a search from event 0 upwards. Assumes nothing.
-use mathlib.Core.Path.{_≡_, refl, sym}
+use mathlib.Core.Path.{sym}
 use mathlib.Core.Bool.{true, false, true≢false}
 use Prim.Native.Nat.{_-_}
 use native.Mathlib.Omega.{arith}
