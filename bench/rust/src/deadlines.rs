@@ -116,14 +116,16 @@ pub fn table(effort: &Effort) {
             let mut numbers = Numbers::from(7);
             let lists = if can_be_met { meetable(&mut numbers, n, r) } else { graphs::forward(&mut numbers, n, r) };
             let questions: Vec<(usize, usize)> = (0..QUESTIONS).map(|_| (numbers.below(n), numbers.below(n))).collect();
-            for &(s, t) in &questions {
+            let answer = |&(s, t): &(usize, usize)| {
                 let [a, b] = ENGINES.map(|engine| engine(&lists.graph(), s, t));
                 assert_eq!(a, b, "library and rust");
                 assert_eq!(a.refusal, if can_be_met { 0 } else { 10 });
-            }
+                a
+            };
+            let due: Vec<Answer> = questions.iter().map(answer).collect();
             let mut cycle = |which: usize| {
-                for &(s, t) in &questions {
-                    std::hint::black_box(ENGINES[which](&lists.graph(), s, t));
+                for (&(s, t), &answer) in questions.iter().zip(&due) {
+                    assert_eq!(ENGINES[which](&lists.graph(), s, t), answer);
                 }
             };
             let [a, b] = best_of(effort, &mut cycle).map(|time| time / QUESTIONS as f64 / 1000.0);
