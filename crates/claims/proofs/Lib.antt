@@ -1,0 +1,1 @@
+-- Laws of claims, and the theorems.
