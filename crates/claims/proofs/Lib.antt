@@ -1,1 +1,5 @@
 -- Laws of claims, and the theorems.
+pub mod Sums
+pub mod RuleLaws
+pub mod Marking
+pub mod Breaking

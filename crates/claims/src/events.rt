@@ -7,7 +7,7 @@ ghost use Rattle.verdicts.specs.Verdict.{LowestOr};
 ghost use Rattle.graphs.specs.Graph.{graphOf};
 ghost use Rattle.separation.specs.Promise.{at};
 ghost use Rattle.claims.specs.Claim.{RightAt};
-ghost use Rattle.claims.specs.Parts.Events.{Listed, RulesMarked};
+ghost use Rattle.claims.specs.Parts.Marks.{Listed, RulesMarked};
 use crate::rules::handed_on;
 use crate::rules::meets;
 use crate::rules::rule_verdict;
