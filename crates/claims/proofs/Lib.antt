@@ -3,3 +3,5 @@ pub mod Sums
 pub mod RuleLaws
 pub mod Marking
 pub mod Breaking
+pub mod Executions
+pub mod Promises
