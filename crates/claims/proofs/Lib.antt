@@ -5,3 +5,4 @@ pub mod Marking
 pub mod Breaking
 pub mod Executions
 pub mod Promises
+pub mod Judging

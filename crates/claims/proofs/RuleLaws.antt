@@ -1,4 +1,5 @@
 -- What the code finds of one rule is its verdict. Its numbers are read back from their bits.
+--     read z, read-is           a number read back from its bits
 --     rule-outside, rule-past, rule-early, rule-meets      a case each
 -- Assumes nothing.
 use mathlib.Core.Path.{_≡_, refl, subst, sym}
@@ -16,10 +17,10 @@ use Rattle.claims.specs.declared.rules.Arrival.the-variants as arrival
 use Rattle.claims.specs.declared.rules.RuleVerdict.the-variants.{Meets, Early, Broken}
 use Rattle.claims.specs.Parts.Verdicts.{ArrivalJudged, DelayJudged, KeptBy, RuleJudged}
 
-abbrev read : ℤ → ℤ
+abbrev pub read : ℤ → ℤ
 read z = toZ w64 (ofZ w64 z)
 
-read-is : (z : ℤ) → mag z < 2 ^ hbits w64 → read z ≡ z
+pub read-is : (z : ℤ) → mag z < 2 ^ hbits w64 → read z ≡ z
 read-is z f = toZ-ofZ w64 z (record { sfits = f })
 
 module _ (d D x : ℤ) (v : ℕ) (d-fits : mag d < 2 ^ hbits w64) (D-fits : mag D < 2 ^ hbits w64) (x-fits : mag x < 2 ^ hbits w64) (r : Bool) (delay : DelayJudged (read d) (read D) (read x) r) where

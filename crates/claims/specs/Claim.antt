@@ -3,22 +3,24 @@
 --     BrokenAt g delay time v     == v is an event at which an execution's rule is broken
 --     Holds g s t x delay time    == the claim of x is right: by this it is accepted
 --     WrongLists g times delays   == the lists are not of exactly n and r places
---     ClaimVerdict g s t …        == the refusals of a claim, in this order: 1, 22, 2, 3, 4, 5, 6
+--     ClaimVerdict g s t …        == the refusals of a claim, in this order: 21, 22, 2, 3, 4, 5, 6
 --     Stands g s t x delay time j == j is the verdict on a claim that isn't refused
 --     numbersOf j                 == the numbers of each judgement
+--     Accepts j                   == the claim is accepted
 --     Judged g s t x times delays j == j is the judgement
+--     JudgedAs …                  == the same, of its numbers
 -- An execution is that of executions/specs/Execution.antt, "our maximum" that of Separation.antt there. The claimed number, times and delays are whole numbers
 -- without limit here. Assumes nothing.
 use mathlib.Core.Path.{_≡_}
 use mathlib.Core.Logic.{_⊎_}
-use mathlib.Core.List.{List, [], _∷_, _++_}
+use mathlib.Core.List.{List, _∷_, _++_}
 use Prim.Native.Nat.{ℕ, _<_}
 use lib.IntN.{ℤ, pos, _+ℤ_, _-ℤ_}
 use lib.Signed.{_≤ℤ_, _<ℤ_}
 use lib.ListN.{length}
 use Rattle.verdicts.specs.Verdict.{Check, check, FirstOf, AtZero, Lowest}
 use Rattle.graphs.specs.Graph.{Graph, rules, source, target, least, most, Greatest}
-use Rattle.graphs.specs.Refusal.{CountsOutside, UnknownEvent, DelayOutside, MissingEnd, pathChecks}
+use Rattle.graphs.specs.Refusal.{EventsOutside, RulesOutside, MissingEnd, ruleChecks, pathChecks}
 use Rattle.executions.specs.Execution.{Execution}
 use Rattle.executions.specs.Separation.{Separation}
 use Rattle.separation.specs.Promise.{at}
@@ -48,12 +50,14 @@ pub record Holds (g : Graph) (s t : ℕ) (claimed : ℤ) (delay time : ℕ → �
 abbrev pub WrongLists : Graph → List ℤ → List ℤ → Type 0
 WrongLists g times delays = (length times ≡ g .events → ⊥) ⊎ (length delays ≡ rules g → ⊥)
 
--- the analysis's refusals, with 22 after the counts
+-- the analysis's refusals; a list of wrong length counts with the rule lists
 abbrev pub claimChecks : Graph → ℕ → ℕ → List ℤ → List ℤ → List Check
-claimChecks g s t times delays = check 1 (AtZero (CountsOutside g)) ∷ check 22 (AtZero (WrongLists g times delays)) ∷ check 2 (Lowest (UnknownEvent g)) ∷ check 3 (Lowest (DelayOutside g)) ∷ check 4 (MissingEnd g s t) ∷ []
+claimChecks g s t times delays =
+    check 21 (AtZero (EventsOutside 1024 (g .events)))
+    ∷ (check 22 (AtZero (RulesOutside 4096 g ⊎ WrongLists g times delays)) ∷ (ruleChecks 1000000 g ++ (check 4 (MissingEnd g s t) ∷ pathChecks g)))
 
 abbrev pub ClaimVerdict : Graph → ℕ → ℕ → List ℤ → List ℤ → ℕ → ℕ → Type 0
-ClaimVerdict g s t times delays = FirstOf (claimChecks g s t times delays ++ pathChecks g)
+ClaimVerdict g s t times delays = FirstOf (claimChecks g s t times delays)
 
 -- "A rejected claim names the lowest event at which an execution's rule is broken … if none, it says that the number differs"; "Then say whether it equals our
 -- maximum or lies below it"
@@ -71,6 +75,16 @@ numbersOf Below = record { refusal = 0; place = 0; verdict = 2; event = 0 }
 numbersOf (Broken v) = record { refusal = 0; place = 0; verdict = 3; event = v }
 numbersOf Differs = record { refusal = 0; place = 0; verdict = 4; event = 0 }
 
+-- 1 and 2 are the numbers of an accepted claim
+abbrev pub Accepts : Judgement → Type 0
+Accepts j = (numbersOf j .verdict ≡ 1) ⊎ (numbersOf j .verdict ≡ 2)
+
 pub record Judged (g : Graph) (s t : ℕ) (claimed : ℤ) (times delays : List ℤ) (j : Judgement) : Type 0 where
   pub refusal : ClaimVerdict g s t times delays (numbersOf j .refusal) (numbersOf j .place)
   pub verdict : numbersOf j .refusal ≡ 0 → Stands g s t claimed (at delays) (at times) j
+
+-- the same of a judgement's numbers
+pub record JudgedAs (g : Graph) (s t : ℕ) (claimed : ℤ) (times delays : List ℤ) (n : Numbers) : Type 0 where
+  pub judgement : Judgement
+  pub judged : Judged g s t claimed times delays judgement
+  pub numbers : n ≡ numbersOf judgement

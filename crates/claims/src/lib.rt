@@ -14,7 +14,7 @@ mod rules;
 
 use crate::events::broken_event;
 
-const EVENTS_OUTSIDE: usize = 1;
+const EVENTS_OUTSIDE: usize = 21;
 
 const RULES_OUTSIDE: usize = 22;
 
