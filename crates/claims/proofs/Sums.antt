@@ -3,8 +3,8 @@
 --     above-last-fits, above-never, above-test     whether time + delay is above the last, by two tests
 --     below-first-fits, below-never, below-test    whether it is below the first
 --     past-above, early-below           so the sum is past or early
---     sum-fits, sum-early, sum-past, sum-exact     else it fits, and how it stands is seen by two tests
---     inside-not, inside-test           whether a delay is inside, by two tests
+--     sum-fits, sum-back                else it fits, and its bits are read back as the sum
+--     delay-low, delay-high, delay-inside     whether a delay is inside
 -- Assumes nothing.
 use mathlib.Core.Path.{_≡_, refl, sym, _∙_}
 use mathlib.Core.Bool.{Bool, true, false, true≢false}
@@ -103,29 +103,16 @@ module _ (t d e : ℤ) (t-fits : SFits w64 t) (d-fits : SFits w64 d) (e-fits : S
     pub sum-fits : SFits w64 formed
     sum-fits = range-fits formed (b .not-below not-below) (a .not-above not-above)
 
-    sum-back : toZ w64 (ofZ w64 formed) ≡ t +ℤ d
+    pub sum-back : toZ w64 (ofZ w64 formed) ≡ t +ℤ d
     sum-back = toZ-ofZ sum-fits ∙ formed-is
-
-    pub sum-early : ltZ (toZ w64 (ofZ w64 formed)) (toZ w64 (ofZ w64 e)) ≡ true → (t +ℤ d) <ℤ e
-    sum-early h = omega (linear, sum-back, toZ-ofZ e-fits)
-
-    pub sum-past : ltZ (toZ w64 (ofZ w64 e)) (toZ w64 (ofZ w64 formed)) ≡ true → e <ℤ (t +ℤ d)
-    sum-past h = omega (linear, sum-back, toZ-ofZ e-fits)
-
-    pub sum-exact : ltZ (toZ w64 (ofZ w64 formed)) (toZ w64 (ofZ w64 e)) ≡ false → ltZ (toZ w64 (ofZ w64 e)) (toZ w64 (ofZ w64 formed)) ≡ false → t +ℤ d ≡ e
-    sum-exact h k = omega (linear, sum-back, toZ-ofZ e-fits)
 
 -- ---- whether a delay is inside
 
-module _ (d D x : ℤ) (d-fits : SFits w64 d) (D-fits : SFits w64 D) (x-fits : SFits w64 x) where
-  pub inside-not : ltZ (toZ w64 (ofZ w64 x)) (toZ w64 (ofZ w64 d)) ≡ true → DelayJudged d D x false
-  inside-not h =
-      record { inside = λ e. absurd (true≢false (sym e)); outside = λ e from to. absurd (let no : ⊥ = omega (linear, toZ-ofZ x-fits, toZ-ofZ d-fits) in no) }
+pub delay-low : {d D x : ℤ} → x <ℤ d → DelayJudged d D x false
+delay-low l = record { inside = λ e. absurd (true≢false (sym e)); outside = λ e from to. omega linear }
 
-  pub inside-test : ltZ (toZ w64 (ofZ w64 x)) (toZ w64 (ofZ w64 d)) ≡ false → DelayJudged d D x (leZ (toZ w64 (ofZ w64 x)) (toZ w64 (ofZ w64 D)))
-  inside-test h =
-      rw (toZ-ofZ x-fits, toZ-ofZ D-fits)
-      (record {
-        inside = λ e. (omega (linear, toZ-ofZ x-fits, toZ-ofZ d-fits), omega linear);
-        outside = λ e from to. absurd (let no : ⊥ = omega linear in no);
-      })
+pub delay-high : {d D x : ℤ} → D <ℤ x → DelayJudged d D x false
+delay-high l = record { inside = λ e. absurd (true≢false (sym e)); outside = λ e from to. omega linear }
+
+pub delay-inside : {d D x : ℤ} → d ≤ℤ x → x ≤ℤ D → DelayJudged d D x true
+delay-inside from to = record { inside = λ e. (from, to); outside = λ e. absurd (true≢false e) }

@@ -7,7 +7,7 @@ ghost use lib.IntN.{_-ℤ_};
 ghost use Rattle.integers.specs.Within.{Within};
 ghost use Rattle.graphs.specs.Graph.{graphOf};
 ghost use Rattle.claims.specs.Claim.{Judged, numbersOf};
-ghost use Rattle.claims.specs.Parts.Verdicts.{NumberJudged};
+ghost use Rattle.claims.specs.Parts.Verdicts.{ListsJudged, NumberJudged};
 
 mod events;
 mod rules;
@@ -65,6 +65,19 @@ pub fn as_numbers(judgement: Judgement) -> Numbers
     }
 }
 
+// Whether a list of that many times, or of that many delays, has not exactly one place for each event or rule.
+fn wrong_lists(times: usize, n: usize, delays: usize, rules: usize) -> bool
+    ensures { λ r. ⌜ ListsJudged times n delays rules r ⌝ }
+{
+    if times != n {
+        return true;
+    }
+    if delays != rules {
+        return true;
+    }
+    false
+}
+
 // The judgement on a claim whose lists are an execution, in which s happens at `start` and t at `end`.
 fn judge_number(start: i64, end: i64, claimed: i64, maximum: i64) -> Judgement
     requires { ⌜ Within 1023000000 start × Within 1023000000 end ⌝ }
@@ -99,10 +112,7 @@ pub fn judge(
     if answer.refusal == EVENTS_OUTSIDE {
         return Judgement::Refused(answer.refusal, answer.place);
     }
-    if times.len() != n {
-        return Judgement::Refused(RULES_OUTSIDE, 0);
-    }
-    if delays.len() != sources.len() {
+    if wrong_lists(times.len(), n, delays.len(), sources.len()) {
         return Judgement::Refused(RULES_OUTSIDE, 0);
     }
     if answer.refusal != 0 {

@@ -70,7 +70,10 @@ fn inside(least: i64, most: i64, delay: i64) -> bool
     if delay < least {
         return false;
     }
-    delay <= most
+    if delay > most {
+        return false;
+    }
+    true
 }
 
 // What rule i says of its target.

@@ -7,10 +7,12 @@
 --     RuleKept g delay time i, RuleMeets …, RuleVerdictAt …  == the same of rule i
 --     RuleListed ss ts …              == rule i stands in all lists
 --     brokenOr n r, isMeets r         == the event that a verdict hands on, or n; whether it is that the rule meets its target
+--     ListsJudged a n b r q           == q says whether a times and b delays are not exactly n and r
 --     NumberJudged gap x top r        == r says how the claimed number x stands to the gap of the times and to the maximum
 -- Assumes nothing.
 use mathlib.Core.Path.{_≡_}
 use mathlib.Core.Bool.{Bool, true, false}
+use mathlib.Core.Logic.{_⊎_}
 use mathlib.Core.List.{List}
 use Prim.Native.Nat.{ℕ, _<_}
 use lib.IntN.{ℤ, pos, negsuc, _+ℤ_}
@@ -80,6 +82,10 @@ abbrev pub isMeets : RuleVerdict → Bool
 isMeets Meets = true
 isMeets Early = false
 isMeets (Broken e) = false
+
+pub record ListsJudged (times n delays rules : ℕ) (r : Bool) : Type 0 where
+  pub wrong : r ≡ true → (times ≡ n → ⊥) ⊎ (delays ≡ rules → ⊥)
+  pub right : r ≡ false → (times ≡ n) × (delays ≡ rules)
 
 abbrev pub NumberJudged : ℤ → ℤ → ℤ → Judgement → Type 0
 NumberJudged gap claimed top (Refused number place) = ⊥
