@@ -8,7 +8,7 @@
 --     path-kept                                    and has no cycle
 --     cycle-exactly                                refusal 5 is given exactly where there is a cycle
 --     cycle-place                                  and its place is the lowest event on one
---     short-alike                                  the questions' checks, where "too short" is said in two ways
+--     short-at, short-alike                        the questions' checks, where "too short" is said in two ways
 --     graph-verdict-unique                         a graph has one verdict
 --     graph-accepted, graph-place                  an accepted graph is sized and has no cycle; its place is 0
 --     graph-alone                                  asked about two of its events, with lists that are long enough, a graph is refused as it is alone
@@ -149,7 +149,7 @@ cycle-place {g} {j} {p} e v =
 
 -- ---- "too short", said in two ways
 
-short-at : {A B : Type 0} → (A → B) → (p : ℕ) → AtZero A p → AtZero B p
+pub short-at : {A B : Type 0} → (A → B) → (p : ℕ) → AtZero A p → AtZero B p
 short-at f p a = record { zero-place = a .zero-place; holds = f (a .holds) }
 
 pub short-alike : {A B : Type 0} → (A → B) → (B → A) → {b : ℕ} {g : Graph} {s t : ℕ} → Alike (questionChecksTo b g s t A) (questionChecksTo b g s t B)
