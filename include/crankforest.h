@@ -64,6 +64,20 @@ size_t crankforest_coarse(size_t n, const size_t *sources, size_t sources_length
                           const int64_t *leasts, size_t leasts_length, const int64_t *mosts, size_t mosts_length, size_t s, size_t t, size_t q,
                           size_t *place, int64_t *separation, size_t *source_depth, size_t *target_depth);
 
+/* The judgement on a claim: that t(t) - t(s) is `claimed` where the events happen at `times` and the rules take `delays`, exactly n and one a rule; any 64-bit
+ * numbers are judged as they are. Gives the refusal's number, 0 for none, in the order of the analysis; lists of another length are refused with 22. Puts the
+ * verdict where it is told, and with CRANKFOREST_BROKEN the lowest event at which an execution's rule is broken, else 0; refused, both are 0. */
+enum crankforest_verdict {
+    CRANKFOREST_MAXIMUM = 1,     /* an execution with that gap, which is the greatest there is */
+    CRANKFOREST_BELOW = 2,       /* an execution with that gap, which is below the greatest */
+    CRANKFOREST_BROKEN = 3,      /* no execution; the event is named */
+    CRANKFOREST_DIFFERS = 4      /* an execution with another gap */
+};
+size_t crankforest_judge(size_t n, const size_t *sources, size_t sources_length, const size_t *targets, size_t targets_length,
+                         const int64_t *leasts, size_t leasts_length, const int64_t *mosts, size_t mosts_length, size_t s, size_t t, int64_t claimed,
+                         const int64_t *times, size_t times_length, const int64_t *delays, size_t delays_length,
+                         size_t *place, size_t *verdict, size_t *event);
+
 /* The event graph of a process graph with p events, unfolded `copies` times: occurrence k of event i has number 1 + k * p + i. Writes (templates x copies)
  * rules, and puts the number of events and of rules where it is told; refused, both are 0 and the lists keep what they held. */
 size_t crankforest_unfold(size_t p, size_t copies, const size_t *sources, size_t sources_length, const size_t *targets, size_t targets_length,

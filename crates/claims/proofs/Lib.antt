@@ -6,3 +6,4 @@ pub mod Breaking
 pub mod Executions
 pub mod Promises
 pub mod Judging
+pub mod Figures
