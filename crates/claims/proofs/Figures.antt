@@ -18,6 +18,7 @@ two : Graph
 two = graphOf 3 (0 ∷ (2 ∷ [])) (2 ∷ (1 ∷ [])) (pos 0 ∷ (pos 0 ∷ [])) (pos 0 ∷ (pos 1 ∷ []))
 
 unfolding two
+
 none-into-root : (i : ℕ) → i < rules two → target two i ≡ 0 → ⊥
 none-into-root zero l to = omega arith
 none-into-root (suc zero) l to = omega arith

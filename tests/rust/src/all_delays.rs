@@ -300,9 +300,21 @@ fn is_broken(event: usize, rules: &[Rule], times: &[i64], delays: &[i64]) -> boo
 }
 
 /// The verdict on a claim that isn't refused. `greatest` is the maximum.
-pub fn verdict(rules: &[Rule], s: usize, t: usize, claimed: i64, greatest: i64, times: &[i64], delays: &[i64]) -> Verdict {
+pub fn verdict(
+    rules: &[Rule],
+    s: usize,
+    t: usize,
+    claimed: i64,
+    greatest: i64,
+    times: &[i64],
+    delays: &[i64],
+) -> Verdict {
     let broken = (0..times.len()).find(|&event| is_broken(event, rules, times, delays));
-    assert_eq!(broken.is_none(), is_execution(rules, times, delays), "no event is broken exactly if it is an execution");
+    assert_eq!(
+        broken.is_none(),
+        is_execution(rules, times, delays),
+        "no event is broken exactly if it is an execution"
+    );
     match broken {
         Some(event) => Verdict::Broken(event),
         None if times[t] - times[s] != claimed => Verdict::Differs,

@@ -132,12 +132,25 @@ fn any_claims() {
 }
 
 fn change(random: &mut Random, claim: &mut Claim) {
-    let ends = [i64::MIN, i64::MIN + 1, -1_000_001, -1, 0, 1, 1_000_000, 1 << 62, i64::MAX - 1_000_000, i64::MAX - 1, i64::MAX];
+    let ends = [
+        i64::MIN,
+        i64::MIN + 1,
+        -1_000_001,
+        -1,
+        0,
+        1,
+        1_000_000,
+        1 << 62,
+        i64::MAX - 1_000_000,
+        i64::MAX - 1,
+        i64::MAX,
+    ];
     for _ in 0..random.below(4) {
         let list = if random.once_in(2) { &mut claim.times } else { &mut claim.delays };
         if !list.is_empty() {
             let at = random.below(list.len());
-            list[at] = if random.once_in(3) { random.pick(&ends) } else { list[at].saturating_add(random.between(-3, 3)) };
+            list[at] =
+                if random.once_in(3) { random.pick(&ends) } else { list[at].saturating_add(random.between(-3, 3)) };
         }
     }
     if random.once_in(4) {
