@@ -14,10 +14,8 @@ use Rattle.graphs.specs.Graph.{Graph, graphOf, rules, source, target, least, mo
 use Rattle.separation.specs.Promise.{at}
 use Rattle.claims.specs.Claim.{RightAt, BrokenAt}
 
-two : Graph
+abbrev pub two : Graph
 two = graphOf 3 (0 ∷ (2 ∷ [])) (2 ∷ (1 ∷ [])) (pos 0 ∷ (pos 0 ∷ [])) (pos 0 ∷ (pos 1 ∷ []))
-
-unfolding two
 
 none-into-root : (i : ℕ) → i < rules two → target two i ≡ 0 → ⊥
 none-into-root zero l to = omega arith
@@ -33,14 +31,14 @@ root-right delay time e =
       other = λ other. absurd (other refl);
     }
 
-below-one : {A : ℕ → Type 0} → A 0 → (q : ℕ) → q < 1 → A q
-below-one a zero l = a
-below-one a (suc q) l = absurd (let no : ⊥ = omega arith in no)
+below-one : (A : ℕ → Type 0) → A 0 → (q : ℕ) → q < 1 → A q
+below-one A a zero l = a
+below-one A a (suc q) l = absurd (let no : ⊥ = omega arith in no)
 
-below-two : {A : ℕ → Type 0} → A 0 → A 1 → (q : ℕ) → q < 2 → A q
-below-two a b zero l = a
-below-two a b (suc zero) l = b
-below-two a b (suc (suc q)) l = absurd (let no : ⊥ = omega arith in no)
+below-two : (A : ℕ → Type 0) → A 0 → A 1 → (q : ℕ) → q < 2 → A q
+below-two A a b zero l = a
+below-two A a b (suc zero) l = b
+below-two A a b (suc (suc q)) l = absurd (let no : ⊥ = omega arith in no)
 
 -- ---- a sum past the last number
 
@@ -48,7 +46,7 @@ pub wrapped-broken : Lowest (BrokenAt two (at (pos 0 ∷ (pos 1 ∷ []))) (at (p
 wrapped-broken =
     record {
       holds = record { is-event = omega arith; broken = λ right. passed (right .other (λ e. omega arith) .bound 1 (omega arith) refl) };
-      lowest = below-one (λ b. b .broken (root-right delay time refl));
+      lowest = below-one (λ q. BrokenAt two delay time q → ⊥) (λ b. b .broken (root-right delay time refl));
     }
   where
     delay : ℕ → ℤ
@@ -62,27 +60,27 @@ wrapped-broken =
 
 -- ---- a time is not broken for its size alone
 
-abbrev far : ℤ
+abbrev pub far : ℤ
 far = pos 4611686018427387904
 
-abbrev stay : ℕ → ℤ
+abbrev pub stay : ℕ → ℤ
 stay = at (pos 0 ∷ (pos 0 ∷ []))
 
-abbrev away : ℕ → ℤ
+abbrev pub away : ℕ → ℤ
 away = at (pos 0 ∷ (far ∷ (far ∷ [])))
 
-into-one : {A : ℕ → Type 0} → A 1 → (i : ℕ) → i < rules two → target two i ≡ 1 → A i
-into-one a zero l to = absurd (let no : ⊥ = omega arith in no)
-into-one a (suc zero) l to = a
-into-one a (suc (suc i)) l to = absurd (let no : ⊥ = omega arith in no)
+into-one : (A : ℕ → Type 0) → A 1 → (i : ℕ) → i < rules two → target two i ≡ 1 → A i
+into-one A a zero l to = absurd (let no : ⊥ = omega arith in no)
+into-one A a (suc zero) l to = a
+into-one A a (suc (suc i)) l to = absurd (let no : ⊥ = omega arith in no)
 
 pub far-right : RightAt two stay away 1
 far-right =
     record {
-      from-least = into-one {A = λ i. least two i ≤ℤ stay i} (omega linear);
-      to-most = into-one {A = λ i. stay i ≤ℤ most two i} (omega linear);
+      from-least = into-one (λ i. least two i ≤ℤ stay i) (omega linear);
+      to-most = into-one (λ i. stay i ≤ℤ most two i) (omega linear);
       root = λ z. absurd (let no : ⊥ = omega arith in no);
-      other = λ other. record { reached = (1, omega arith, refl, refl); bound = into-one {A = λ i. (away (source two i) +ℤ stay i) ≤ℤ far} (omega linear) };
+      other = λ other. record { reached = (1, omega arith, refl, refl); bound = into-one (λ i. (away (source two i) +ℤ stay i) ≤ℤ far) (omega linear) };
     }
 
 not-there : (i : ℕ) → i < rules two → target two i ≡ 2 → away (source two i) +ℤ stay i ≡ far → ⊥
@@ -101,5 +99,5 @@ far-broken =
                 let (i, l, to, e) = right .other (λ z. omega arith) .reached in
                 not-there i l to e;
           };
-      lowest = below-two (λ b. b .broken (root-right stay away refl)) (λ b. b .broken far-right);
+      lowest = below-two (λ q. BrokenAt two stay away q → ⊥) (λ b. b .broken (root-right stay away refl)) (λ b. b .broken far-right);
     }

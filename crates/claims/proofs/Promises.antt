@@ -134,8 +134,8 @@ told Differs = refl
 pub numbers-apart : (j k : Judgement) → numbersOf j ≡ numbersOf k → j ≡ k
 numbers-apart j k e = sym (told j) ∙ ap (λ (n : Numbers). back n (n .verdict)) e ∙ told k
 
-pub as-numbers-unique : {j : Judgement} {m n : Numbers} → m ≡ numbersOf j → n ≡ numbersOf j → m ≡ n
-as-numbers-unique a b = a ∙ sym b
+pub as-numbers-unique : (j : Judgement) {m n : Numbers} → m ≡ numbersOf j → n ≡ numbersOf j → m ≡ n
+as-numbers-unique j a b = a ∙ sym b
 
 pub judged-as-unique : {g : Graph} {s t : ℕ} {claimed : ℤ} {times delays : List ℤ} {m n : Numbers} → JudgedAs g s t claimed times delays m → JudgedAs g s t claimed times delays n → m ≡ n
 judged-as-unique a b = a .numbers ∙ ap numbersOf (judgement-unique (a .judged) (b .judged)) ∙ sym (b .numbers)
