@@ -5,4 +5,5 @@ pub mod Checked
 pub mod Roundings
 pub mod Unfoldings
 pub mod Passed
+pub mod Loops
 pub mod Figures

@@ -27,7 +27,7 @@ fn of_lengths(label: &[u8], sources: usize, targets: usize, leasts: usize, mosts
     );
 }
 
-// 1: lists that differ in length.
+// 22: lists that differ in length.
 fn lengths() {
     of_lengths(b"a source too few", 1, 2, 2, 2);
     of_lengths(b"a target too few", 2, 1, 2, 2);
@@ -98,13 +98,43 @@ fn ends() {
     ask_none(b"missing s before unreached event", 2, 2, 1);
 }
 
-// 5: a cycle anywhere, before an unreached event.
+// The rules 0→1, 3→4, 4→3, 3→2, 0→3: event 2 stands behind the cycle, 3 is the lowest on it.
+fn behind_cycle() {
+    ask(
+        b"an event behind the cycle",
+        5,
+        &[0, 3, 4, 3, 0],
+        &[1, 4, 3, 2, 3],
+        &[0; 5],
+        &[0; 5],
+        0,
+        1,
+    );
+}
+
+// 5: a cycle anywhere, before an unreached event; the place is the lowest event that lies on a cycle.
 fn cycles() {
     ask_rule(b"root to itself", 1, 0, 0, 0, 0, 0, 0);
     three(b"event to itself", 2, 0, 1, 1, 1, 0, 1);
     three(b"cycle through root", 2, 0, 1, 1, 0, 0, 1);
     three(b"cycle and unreached event", 4, 0, 1, 1, 2, 2, 1);
     three(b"unreached cycle", 4, 0, 1, 2, 3, 3, 2);
+    three(b"two cycles", 4, 3, 3, 2, 1, 1, 2);
+    behind_cycle();
+}
+
+// 21 before 22: too many events, and lists that differ in length.
+fn events_first() {
+    ask(
+        b"1025 events and lengths",
+        1025,
+        &[0],
+        &[0, 0],
+        &[0],
+        &[0],
+        0,
+        1,
+    );
 }
 
 // 6: the lowest event that isn't reachable from the root.
@@ -123,8 +153,9 @@ fn accepted() {
     twice(b"rules side by side", 1, 1);
 }
 
-// Refusals 1 to 6 in order, then what must not be refused.
+// Refusals 21, 22 and 2 to 6 in order, then what must not be refused.
 pub(crate) fn all() {
+    events_first();
     lengths();
     lengths_first();
     events();

@@ -100,6 +100,8 @@ fn limits() {
     ask_counts(b"one event 1023 times", 1, 1023);
     ask_counts(b"no event", 0, 1);
     ask_counts(b"no times", 1, 0);
+    ask_counts(b"no event and no times", 0, 0);
+    ask_counts(b"1023 events twice", 1023, 2);
     ask_counts(b"2^63 events twice", 9223372036854775808, 2);
     ask_counts(b"greatest counts", usize::MAX, usize::MAX);
     ask_counts(b"3 events twice and no templates", 3, 2);
@@ -108,6 +110,7 @@ fn limits() {
 // Each refusal, its place, and which of two is given first.
 fn refusals() {
     ask_template(b"13 rules for 12 places", 1, 13, 0, 0, 0, 1, 1);
+    ask_template(b"1024 rules for 12 places", 1, 1024, 0, 0, 0, 1, 1);
     ask_template(b"source 1 of 1", 1, 2, 1, 0, 0, 1, 1);
     ask_template(b"target 2^32", 1, 2, 0, 4294967296, 0, 1, 1);
     ask_template(b"least above most", 1, 2, 0, 0, 1, 0, 1);

@@ -128,8 +128,9 @@ fn led_to(from: usize, rules: &[Rule]) -> Vec<usize> {
     }
 }
 
-fn has_cycle(events: usize, rules: &[Rule]) -> bool {
-    (0..events).any(|event| led_to(event, rules).contains(&event))
+/// The lowest event that a rule or more lead back to.
+fn lowest_on_cycle(events: usize, rules: &[Rule]) -> Option<usize> {
+    (0..events).find(|event| led_to(*event, rules).contains(event))
 }
 
 fn lowest_unreached(events: usize, rules: &[Rule]) -> Option<usize> {
@@ -168,18 +169,27 @@ fn delay_outside(rule: &Rule) -> bool {
     !inside.contains(&rule.least) || !inside.contains(&rule.most) || rule.least > rule.most
 }
 
-fn counts_outside(given: &Given, form: Form) -> bool {
+/// 21 for the events, 22 for the rules, 23 for the lent lists, in this order.
+fn counts_refused(given: &Given, form: Form) -> Option<usize> {
     let short = match form {
         Form::Schedule(times, delays) => times < given.events || delays < given.sources.len(),
         _ => false,
     };
-    given.events == 0 || given.events > 1_024 || given.sources.len() > 4_096 || given.lists_differ() || short
+    if given.events == 0 || given.events > 1_024 {
+        Some(21)
+    } else if given.sources.len() > 4_096 || given.lists_differ() {
+        Some(22)
+    } else if short {
+        Some(23)
+    } else {
+        None
+    }
 }
 
 /// The number and place of the first refusal that applies.
 pub fn refusal(given: &Given, form: Form, s: usize, t: usize) -> Option<(usize, usize)> {
-    if counts_outside(given, form) {
-        return Some((1, 0));
+    if let Some(number) = counts_refused(given, form) {
+        return Some((number, 0));
     }
     let events = given.events;
     let rules = given.rules();
@@ -196,8 +206,8 @@ pub fn refusal(given: &Given, form: Form, s: usize, t: usize) -> Option<(usize, 
         Form::Coarse(q) if q == 0 || q > 1_000 => return Some((9, q)),
         _ => {}
     }
-    if has_cycle(events, &rules) {
-        return Some((5, 0));
+    if let Some(event) = lowest_on_cycle(events, &rules) {
+        return Some((5, event));
     }
     lowest_unreached(events, &rules).map(|event| (6, event))
 }
@@ -344,16 +354,25 @@ impl GivenProcess {
         self.templates.events as u128 * self.copies as u128
     }
 
-    fn counts_outside(&self) -> bool {
+    /// 21 for the events, 22 for the templates, 24 for the unfolding, 23 for the lent lists, in this order.
+    fn counts_refused(&self) -> Option<usize> {
         let lists_differ = self.templates.lists_differ() || self.marks.len() != self.templates.sources.len();
-        let short = self.lent.iter().any(|&length| (length as u128) < self.written());
-        let none = self.templates.events == 0 || self.copies == 0;
-        none || lists_differ || short || self.last_event() > 1_023 || self.written() > 4_096
+        if self.templates.events == 0 || self.templates.events > 1_023 {
+            Some(21)
+        } else if self.templates.sources.len() > 4_096 || lists_differ {
+            Some(22)
+        } else if self.copies == 0 || self.last_event() > 1_023 || self.written() > 4_096 {
+            Some(24)
+        } else if self.lent.iter().any(|&length| (length as u128) < self.written()) {
+            Some(23)
+        } else {
+            None
+        }
     }
 
     pub fn refusal(&self) -> Option<(usize, usize)> {
-        if self.counts_outside() {
-            return Some((1, 0));
+        if let Some(number) = self.counts_refused() {
+            return Some((number, 0));
         }
         let events = self.templates.events;
         let templates = self.templates.rules();
