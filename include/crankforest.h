@@ -29,7 +29,7 @@ enum crankforest_refusal {
     CRANKFOREST_TEXT = 8,        /* the text breaks the text form's rules; place: the lowest such row, the header being row 1 */
     CRANKFOREST_STEP = 9,        /* q is 0 or above 1,000; place: q */
     CRANKFOREST_EVENTS = 21,     /* no event, or more than 1,024, of a text 64; no process event, or more than 1,023; place 0 */
-    CRANKFOREST_RULES = 22,      /* more than 4,096 rules or templates, of a text 1,024; or their lists differ in length; place 0 */
+    CRANKFOREST_RULES = 22,      /* more than 4,096 rules or templates, of a text 1,024; their lists differ in length; or a claim's lists are not of exactly n and r places; place 0 */
     CRANKFOREST_SHORT = 23,      /* a lent list is too short; place 0 */
     CRANKFOREST_COPIES = 24      /* no copies, or 1 + p * copies is above 1,024 or templates * copies above 4,096; place 0 */
 };
@@ -69,7 +69,7 @@ size_t crankforest_coarse(size_t n, const size_t *sources, size_t sources_length
                           size_t *place, int64_t *separation, size_t *source_depth, size_t *target_depth);
 
 /* The judgement on a claim: that t(t) - t(s) is `claimed` where the events happen at `times` and the rules take `delays`, exactly n and one a rule; any 64-bit
- * numbers are judged as they are. Gives the refusal's number, 0 for none, in the order of the analysis; lists of another length are refused with 22. Puts the
+ * numbers are judged as they are. Gives the refusal's number, 0 for none, in the order of the analysis; lists of another length are CRANKFOREST_RULES. Puts the
  * verdict where it is told, and with CRANKFOREST_BROKEN the lowest event at which an execution's rule is broken, else 0; refused, both are 0. */
 enum crankforest_verdict {
     CRANKFOREST_MAXIMUM = 1,     /* an execution with that gap, which is the greatest there is */

@@ -178,7 +178,7 @@ static void claims(void)
     check_judged("a claim of another number", &fork_graph, 2, 3, 3, times, 4, delays, CRANKFOREST_ACCEPTED, CRANKFOREST_DIFFERS, 0);
     check_judged("a claim that is broken", &fork_graph, 2, 3, 5, late, 4, delays, CRANKFOREST_ACCEPTED, CRANKFOREST_BROKEN, 3);
     check_judged("a sum that doesn't wrap", &two, 0, 1, 0, ends, 3, ticks, CRANKFOREST_ACCEPTED, CRANKFOREST_BROKEN, 1);
-    check_judged("a list that is too long", &fork_graph, 2, 3, 4, times, 5, delays, 22, 0, 0);
+    check_judged("a list that is too long", &fork_graph, 2, 3, 4, times, 5, delays, CRANKFOREST_RULES, 0, 0);
 }
 
 /* ---- refusals */

@@ -231,8 +231,11 @@ fn draw_claim(known: &Known, s: usize, t: usize, random: &mut Random) -> Claim {
         let list = if random.once_in(2) { &mut claim.times } else { &mut claim.delays };
         if !list.is_empty() {
             let at = random.below(list.len());
-            list[at] =
-                if random.once_in(5) { random.pick(&[i64::MIN, i64::MAX]) } else { list[at] + random.between(-2, 2) };
+            list[at] = if random.once_in(5) {
+                random.pick(&[i64::MIN, i64::MAX])
+            } else {
+                list[at].saturating_add(random.between(-2, 2))
+            };
         }
     }
     if random.once_in(4) {
