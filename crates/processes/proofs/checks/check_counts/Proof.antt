@@ -44,7 +44,7 @@ returns : tie.Need-returns
 returns c = count-21 (no-events (c .if1 .taken))
 
 returns-2 : tie.Need-returns-2
-returns-2 c = count-21 (many-events (c .if2 .taken))
+returns-2 c = count-21 (many-events (omega (arith, c .if2 .taken)))
 
 returns-3 : tie.Need-returns-3
 returns-3 c = count-22 (some (c .before)) (c .before .if2 .left) (many-templates (c .if3 .taken))
