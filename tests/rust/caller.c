@@ -154,6 +154,33 @@ static void unfolding_of_p11(void)
     }
 }
 
+/* ---- claims */
+
+static void check_judged(const char *name, const struct graph *g, size_t s, size_t t, int64_t claimed, const int64_t *times, size_t times_length,
+                         const int64_t *delays, size_t refusal, size_t verdict, size_t event)
+{
+    size_t place = 99, said = 99, named = 99;
+    size_t number = crankforest_judge(g->n, g->sources, g->r, g->targets, g->r, g->leasts, g->r, g->mosts, g->r, s, t, claimed,
+                                      times, times_length, delays, g->r, &place, &said, &named);
+    check(name, (int64_t)number, (int64_t)refusal);
+    check(name, (int64_t)place, 0);
+    check(name, (int64_t)said, (int64_t)verdict);
+    check(name, (int64_t)named, (int64_t)event);
+}
+
+static void claims(void)
+{
+    static const int64_t times[] = {0, 5, 1, 5, 5}, delays[] = {5, 1, 0, 0}, late[] = {0, 5, 1, 6};
+    static const struct graph two = {3, 2, {0, 2}, {2, 1}, {0, 0}, {0, 1}};
+    static const int64_t ends[] = {0, INT64_MIN, INT64_MAX}, ticks[] = {0, 1};
+    check_judged("a claim of the maximum", &fork_graph, 2, 3, 4, times, 4, delays, CRANKFOREST_ACCEPTED, CRANKFOREST_MAXIMUM, 0);
+    check_judged("a claim below it", &fork_graph, 3, 2, -4, times, 4, delays, CRANKFOREST_ACCEPTED, CRANKFOREST_BELOW, 0);
+    check_judged("a claim of another number", &fork_graph, 2, 3, 3, times, 4, delays, CRANKFOREST_ACCEPTED, CRANKFOREST_DIFFERS, 0);
+    check_judged("a claim that is broken", &fork_graph, 2, 3, 5, late, 4, delays, CRANKFOREST_ACCEPTED, CRANKFOREST_BROKEN, 3);
+    check_judged("a sum that doesn't wrap", &two, 0, 1, 0, ends, 3, ticks, CRANKFOREST_ACCEPTED, CRANKFOREST_BROKEN, 1);
+    check_judged("a list that is too long", &fork_graph, 2, 3, 4, times, 5, delays, CRANKFOREST_RULES, 0, 0);
+}
+
 /* ---- refusals */
 
 static void refusals_of_the_analysis(void)
@@ -265,6 +292,7 @@ int main(void)
     figures_of_the_analysis();
     schedule_of_p2();
     unfolding_of_p11();
+    claims();
     refusals_of_the_analysis();
     lists_that_are_wrong();
     refusals_of_the_unfolding();
