@@ -78,6 +78,12 @@ static void unfold(void) {
                                  out_leasts, RULES, out_mosts, RULES, &place, &events, &rules);
 }
 
+static void judge(void) {
+    size_t verdict, event;
+    refusal = crankforest_judge(EVENTS, sources, RULES, targets, RULES, leasts, RULES, mosts, RULES, 500, EVENTS - 1, 0, times, EVENTS, delays, RULES,
+                                &place, &verdict, &event);
+}
+
 #ifdef TEXT
 static uint8_t text[32768], out[131072];
 static size_t length, bytes;
@@ -156,6 +162,7 @@ int main(int argc, char **argv) {
     make_graph();
     row("crankforest_exact", exact);
     row("crankforest_schedule", schedule);
+    row("crankforest_judge", judge);
     row("crankforest_coarse", coarse);
     make_deadlines();
     row("crankforest_hard", hard);

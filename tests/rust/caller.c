@@ -194,13 +194,40 @@ static void unfolding_of_p11(void)
     }
 }
 
+/* ---- claims */
+
+static void check_judged(const char *name, const struct graph *g, size_t s, size_t t, int64_t claimed, const int64_t *times, size_t times_length,
+                         const int64_t *delays, size_t refusal, size_t verdict, size_t event)
+{
+    size_t place = 99, said = 99, named = 99;
+    size_t number = crankforest_judge(g->n, g->sources, g->r, g->targets, g->r, g->leasts, g->r, g->mosts, g->r, s, t, claimed,
+                                      times, times_length, delays, g->r, &place, &said, &named);
+    check(name, (int64_t)number, (int64_t)refusal);
+    check(name, (int64_t)place, 0);
+    check(name, (int64_t)said, (int64_t)verdict);
+    check(name, (int64_t)named, (int64_t)event);
+}
+
+static void claims(void)
+{
+    static const int64_t times[] = {0, 5, 1, 5, 5}, delays[] = {5, 1, 0, 0}, late[] = {0, 5, 1, 6};
+    static const struct graph two = {3, 2, {0, 2}, {2, 1}, {0, 0}, {0, 1}};
+    static const int64_t ends[] = {0, INT64_MIN, INT64_MAX}, ticks[] = {0, 1};
+    check_judged("a claim of the maximum", &fork_graph, 2, 3, 4, times, 4, delays, CRANKFOREST_ACCEPTED, CRANKFOREST_MAXIMUM, 0);
+    check_judged("a claim below it", &fork_graph, 3, 2, -4, times, 4, delays, CRANKFOREST_ACCEPTED, CRANKFOREST_BELOW, 0);
+    check_judged("a claim of another number", &fork_graph, 2, 3, 3, times, 4, delays, CRANKFOREST_ACCEPTED, CRANKFOREST_DIFFERS, 0);
+    check_judged("a claim that is broken", &fork_graph, 2, 3, 5, late, 4, delays, CRANKFOREST_ACCEPTED, CRANKFOREST_BROKEN, 3);
+    check_judged("a sum that doesn't wrap", &two, 0, 1, 0, ends, 3, ticks, CRANKFOREST_ACCEPTED, CRANKFOREST_BROKEN, 1);
+    check_judged("a list that is too long", &fork_graph, 2, 3, 4, times, 5, delays, CRANKFOREST_RULES, 0, 0);
+}
+
 /* ---- refusals */
 
 static void refusals_of_the_analysis(void)
 {
     struct graph g = row;
     g.n = 1025;
-    check_refused("1,025 events", exact(&g, 2, 3), CRANKFOREST_COUNTS, 0);
+    check_refused("1,025 events", exact(&g, 2, 3), CRANKFOREST_EVENTS, 0);
     g.n = 3;
     check_refused("an unknown event", exact(&g, 2, 1), CRANKFOREST_EVENT, 2);
     g = row;
@@ -210,7 +237,7 @@ static void refusals_of_the_analysis(void)
     check_refused("no such t", exact(&row, 3, SIZE_MAX), CRANKFOREST_QUESTION, 1);
     g = row;
     g.targets[2] = 1;
-    check_refused("a self rule and an unreached event", exact(&g, 2, 3), CRANKFOREST_CYCLE, 0);
+    check_refused("a self rule and an unreached event", exact(&g, 2, 3), CRANKFOREST_CYCLE, 1);
     g = row;
     g.r = 2;
     check_refused("an unreached event", exact(&g, 2, 3), CRANKFOREST_UNREACHED, 3);
@@ -225,14 +252,14 @@ static void lists_that_are_wrong(void)
     struct answer a = {99, 99, 99, 99, 99};
     hold(times, 4);
     hold(delays, 4);
-    check_refused("a short list of times", schedule(&row, 2, 3, times, 3, delays, 3), CRANKFOREST_COUNTS, 0);
-    check_refused("a short list of delays", schedule(&row, 2, 3, times, 4, delays, 2), CRANKFOREST_COUNTS, 0);
+    check_refused("a short list of times", schedule(&row, 2, 3, times, 3, delays, 3), CRANKFOREST_SHORT, 0);
+    check_refused("a short list of delays", schedule(&row, 2, 3, times, 4, delays, 2), CRANKFOREST_SHORT, 0);
     check_refused("no such t, with a schedule", schedule(&row, 2, 4, times, 4, delays, 4), CRANKFOREST_QUESTION, 1);
     check_list("times that are kept", times, kept, 4);
     check_list("delays that are kept", delays, kept, 4);
     a.refusal = crankforest_exact(4, row.sources, 3, row.targets, 3, row.leasts, 2, row.mosts, 3, 2, 3, &a.place, &a.separation,
                                   &a.source_depth, &a.target_depth);
-    check_refused("lists of different length", a, CRANKFOREST_COUNTS, 0);
+    check_refused("lists of different length", a, CRANKFOREST_RULES, 0);
     a.refusal = crankforest_exact(1, NULL, 0, NULL, 0, NULL, 0, NULL, 0, 0, 0, &a.place, &a.separation, &a.source_depth, &a.target_depth);
     check_answer("no rules, and NULL for the lists", a, 0, 0, 0);
 }
@@ -253,7 +280,10 @@ static void refusals_of_the_unfolding(void)
     check("a mark of 2, a list", (int64_t)out_sources[0], 77);
     refusal = crankforest_unfold(SIZE_MAX, 2, source, 1, target, 1, delay, 1, delay, 1, marks, 1, out_sources, 1, out_targets, 1,
                                  out_leasts, 1, out_mosts, 1, &place, &events, &rules);
-    check("a product that is too large", (int64_t)refusal, CRANKFOREST_COUNTS);
+    check("too many process events", (int64_t)refusal, CRANKFOREST_EVENTS);
+    refusal = crankforest_unfold(1, SIZE_MAX, source, 1, target, 1, delay, 1, delay, 1, marks, 1, out_sources, 1, out_targets, 1,
+                                 out_leasts, 1, out_mosts, 1, &place, &events, &rules);
+    check("too many copies", (int64_t)refusal, CRANKFOREST_COPIES);
     check("lists of the unfolding that are kept", (int64_t)out_targets[0] + out_leasts[0] + out_mosts[0], 3 * 77);
 }
 
@@ -273,7 +303,7 @@ static void hard_deadlines(void)
     check_hard("the fork with its schedule", hard_schedule(&fork_graph, 0, 3, times, 5, delays, 5), CRANKFOREST_ACCEPTED, 2, 3, 0, 2);
     check_list("the fork's times", times, due_times, 5);
     check_list("the fork's delays", delays, due_delays, 5);
-    check_hard("a short list of delays", hard_schedule(&fork_graph, 0, 3, times, 5, delays, 3), CRANKFOREST_COUNTS, 0, 0, 0, 0);
+    check_hard("a short list of delays", hard_schedule(&fork_graph, 0, 3, times, 5, delays, 3), CRANKFOREST_SHORT, 0, 0, 0, 0);
 }
 
 /* ---- text */
@@ -299,7 +329,7 @@ static void entries_on_text(void)
     check("the pairs of the row", memcmp(out, due, strlen(due)), 0);
     place = bytes = 99;
     refusal = crankforest_pairs(NULL, 0, out, sizeof out - 1, &place, &bytes);
-    check("a list too short for the pairs", (int64_t)refusal, CRANKFOREST_COUNTS);
+    check("a list too short for the pairs", (int64_t)refusal, CRANKFOREST_SHORT);
     check("a list too short for the pairs, place", (int64_t)place, 0);
     check("a list too short for the pairs, bytes", (int64_t)bytes, 0);
     check("a list too short for the pairs is kept", memcmp(out, due, strlen(due)), 0);
@@ -321,6 +351,7 @@ int main(void)
     figures_of_the_analysis();
     schedule_of_p2();
     unfolding_of_p11();
+    claims();
     refusals_of_the_analysis();
     lists_that_are_wrong();
     refusals_of_the_unfolding();

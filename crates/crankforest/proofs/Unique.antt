@@ -6,6 +6,7 @@
 --     hard-schedule-entry-unique    of crankforest_hard_schedule
 --     unfold-entry-unique      of crankforest_unfold
 --     pairs-entry-unique       of crankforest_pairs
+--     judge-entry-unique       of crankforest_judge
 -- Assumes nothing.
 use mathlib.Core.Path.{_≡_, ap}
 use mathlib.Core.List.{List}
@@ -24,10 +25,13 @@ use Rattle.processes.specs.Process.{ProcessGraph}
 use Rattle.processes.specs.Unfolding.{UnfoldingAnswered, UnfoldingWritten}
 use Rattle.processes.specs.declared.Unfolded.{Unfolded}
 use Rattle.processes.proofs.Unique.{SameRuleLists, unfold-unique}
+use Rattle.claims.specs.Claim.{JudgedAs}
+use Rattle.claims.specs.declared.Numbers.{Numbers}
+use Rattle.claims.proofs.Promises.{judged-as-unique}
 use Rattle.text.specs.Output.{PairsWritten}
 use Rattle.text.specs.declared.PairsAnswer.{PairsAnswer}
 use Rattle.text.proofs.Answered.{pairs-unique}
-use Rattle.crankforest.specs.Entries.{answerOf, hardAnswerOf, unfoldedOf, pairsAnswerOf}
+use Rattle.crankforest.specs.Entries.{answerOf, hardAnswerOf, unfoldedOf, pairsAnswerOf, judgedOf}
 
 -- equal answers have equal numbers
 pub record SameAnswer (k p : ℕ) (x : ℤ) (d e : ℕ) (k′ p′ : ℕ) (x′ : ℤ) (d′ e′ : ℕ) : Type 0 where
@@ -55,6 +59,12 @@ pub record SamePairs (k p b k′ p′ b′ : ℕ) : Type 0 where
   pub refusal-same : k ≡ k′
   pub place-same : p ≡ p′
   pub bytes-same : b ≡ b′
+
+pub record SameJudged (k p v e k′ p′ v′ e′ : ℕ) : Type 0 where
+  pub refusal-same : k ≡ k′
+  pub place-same : p ≡ p′
+  pub verdict-same : v ≡ v′
+  pub event-same : e ≡ e′
 
 same-answer : {k p d e k′ p′ d′ e′ : ℕ} {x x′ : ℤ} → answerOf k p x d e ≡ answerOf k′ p′ x′ d′ e′ → SameAnswer k p x d e k′ p′ x′ d′ e′
 same-answer q =
@@ -131,3 +141,15 @@ pub pairs-entry-unique : {bs : List ℕ} {k p b k′ p′ b′ : ℕ} {out₀ ou
     → PairsWritten bs out₀ (pairsAnswerOf k p b) out → PairsWritten bs out₀ (pairsAnswerOf k′ p′ b′) out′
     → SamePairs k p b k′ p′ b′ × (out ≡ out′)
 pairs-entry-unique x y = let same = pairs-unique x y in (same-pairs (same .0), same .1)
+
+pub judge-entry-unique : {g : Graph} {s t : ℕ} {claimed : ℤ} {times delays : List ℤ} {k p v e k′ p′ v′ e′ : ℕ}
+    → JudgedAs g s t claimed times delays (judgedOf k p v e) → JudgedAs g s t claimed times delays (judgedOf k′ p′ v′ e′)
+    → SameJudged k p v e k′ p′ v′ e′
+judge-entry-unique a b =
+    let q = judged-as-unique a b in
+    record {
+      refusal-same = ap (λ (n : Numbers). n .refusal) q;
+      place-same = ap (λ (n : Numbers). n .place) q;
+      verdict-same = ap (λ (n : Numbers). n .verdict) q;
+      event-same = ap (λ (n : Numbers). n .event) q;
+    }

@@ -8,6 +8,7 @@
 //     crankforest_hard        the separation where every rule's delays are deadlines of their own
 //     crankforest_hard_schedule    the same, with the schedule
 //     crankforest_unfold      the event graph of a process graph
+//     crankforest_judge       the judgement on a claimed gap with its times and delays
 // The promises are those of the functions; specs/Entries.antt says which values the entry's numbers stand for.
 ghost use Rattle.text.specs.Answers.{Entered};
 ghost use Rattle.text.specs.Output.{PairsWritten};
@@ -17,6 +18,7 @@ mod coarse;
 mod exact;
 mod hard;
 mod hard_latest;
+mod judging;
 mod latest;
 mod unfolding;
 
@@ -24,6 +26,7 @@ pub use coarse::crankforest_coarse;
 pub use exact::crankforest_exact;
 pub use hard::crankforest_hard;
 pub use hard_latest::crankforest_hard_schedule;
+pub use judging::crankforest_judge;
 pub use latest::crankforest_schedule;
 pub use unfolding::crankforest_unfold;
 

@@ -8,18 +8,18 @@
 --     refused-10, accepted-0  where the analysis refuses nothing, 10 is given where there are no hard times, and nothing is refused where there are some
 -- Assumes nothing.
 use mathlib.Core.Path.{_≡_}
-use mathlib.Core.Logic.{_⊎_, inl, inr, ⊎-elim}
+use mathlib.Core.Logic.{inl, inr}
 use mathlib.Core.List.{List, [], _∷_}
 use Prim.Native.Nat.{ℕ, _<_}
 use native.Mathlib.Omega.{arith}
 use lib.IntN.{ℤ}
 use lib.ListN.{length}
 use Rattle.verdicts.specs.Verdict.{check, AtZero, Lowest, FirstThen, FirstOf, given, passed}
-use Rattle.verdicts.proofs.Verdicts.{NoneApplies, at-zero, at-zero-unique, one-verdict, then-unique, passed-all, then-more, front-given, accepted-none, none-accepted, more-alike, alike-refl, then-alike}
+use Rattle.verdicts.proofs.Verdicts.{NoneApplies, at-zero, at-zero-unique, one-verdict, then-unique, passed-all, then-more, front-given, accepted-none, none-accepted, then-alike}
 use Rattle.graphs.specs.Graph.{Graph}
 use Rattle.graphs.specs.Path.{HasCycle}
 use Rattle.graphs.specs.Limits.{EventGraph}
-use Rattle.graphs.specs.Refusal.{CountsOutside, many-events, many-rules, UnknownEvent, DelayOutside, MissingEnd, Unreached, questionChecks, pathChecks}
+use Rattle.graphs.specs.Refusal.{many-events, many-rules, Unreached, questionChecks, pathChecks}
 use Rattle.graphs.proofs.Refusals.{question-places, path-places, question-none, path-none, cycle-misses, short-alike}
 use Rattle.hardtimes.specs.HardTimes.{HardTimes, NoHardTimes}
 use Rattle.separation.specs.Promise.{ShortLists, Verdict, PathVerdict}
@@ -39,24 +39,22 @@ hard-verdict-unique {g} {s} {t} {Short} {i} {p} {j} {q} v w =
 
 -- ---- lent lists
 
+-- a list of 1,024 or 4,096 places is too short only where 21 or 22 is given
 module _ {g : Graph} (times delays : List ℤ) (long : length times ≡ 1024) (wide : length delays ≡ 4096) where
-  counted : (p : ℕ) → AtZero (CountsOutside g ⊎ ShortLists g times delays) p → AtZero (CountsOutside g ⊎ ⊥) p
-  counted p a = record { zero-place = a .zero-place; holds = ⊎-elim (λ (o : CountsOutside g). inl o) (λ (s : ShortLists g times delays). inl (by s)) (a .holds) }
-    where
-      by : ShortLists g times delays → CountsOutside g
-      by (inl l) = many-events (omega (arith, long))
-      by (inr l) = many-rules (omega (arith, wide))
-
-  counted-back : (p : ℕ) → AtZero (CountsOutside g ⊎ ⊥) p → AtZero (CountsOutside g ⊎ ShortLists g times delays) p
-  counted-back p a = record { zero-place = a .zero-place; holds = ⊎-elim (λ (o : CountsOutside g). inl o) (λ (none : ⊥). absurd none) (a .holds) }
-
   pub local-room : {s t j p : ℕ} → Verdict g s t (ShortLists g times delays) j p → Verdict g s t ⊥ j p
-  local-room {s} {t} {j} {p} v = then-alike (more-alike counted counted-back (alike-refl (check 2 (Lowest (UnknownEvent g)) ∷ check 3 (Lowest (DelayOutside g)) ∷ check 4 (MissingEnd g s t) ∷ []))) (PathVerdict g) j p v
+  local-room (given events) = given events
+  local-room (passed few (given rules)) = passed few (given rules)
+  local-room (passed few (passed kept (given short))) = absurd (never (short .holds))
+    where
+      never : ShortLists g times delays → ⊥
+      never (inl l) = few 0 (at-zero (many-events (omega (arith, long))))
+      never (inr l) = kept 0 (at-zero (many-rules (omega (arith, wide))))
+  local-room (passed few (passed kept (passed roomy rest))) = passed few (passed kept (passed (λ p a. a .holds) rest))
 
 pub short-refused : {g : Graph} {s t j p : ℕ} {Short : Type 0} → Short → Verdict g s t Short j p → j ≡ 0 → ⊥
 short-refused {g} {s} {t} {j} {p} {Short} short v e =
-    let (none, rest) = accepted-none (questionChecks g s t Short) (PathVerdict g) (omega arith, (omega arith, (omega arith, (omega arith, tt)))) j p e v in
-    none .0 0 (at-zero (inr short))
+    let (none, rest) = accepted-none (questionChecks g s t Short) (PathVerdict g) (omega arith, (omega arith, (omega arith, (omega arith, (omega arith, (omega arith, tt)))))) j p e v in
+    none .1 .1 .0 0 (at-zero short)
 
 module _ {g : Graph} {s t : ℕ} where
   pub hard-short : {A B : Type 0} → (A → B) → (B → A) → {j p : ℕ} → HardVerdict g s t A j p → HardVerdict g s t B j p

@@ -6,4 +6,5 @@ pub mod Roundings
 pub mod Unfoldings
 pub mod Passed
 pub mod HardWays
+pub mod Loops
 pub mod Figures

@@ -1,5 +1,5 @@
 -- The figures to check by, those that 01 marks P and that of 02's request 4, as statements about the definitions. Document 01, section "Figures to check by".
---     one, row, fork, pair, below == the event graphs that the figures speak of
+--     one, row, fork, pair, below, looped == the event graphs that the figures speak of
 --     fig1, fig1-unfolded         == the process graph of P11, and its unfolding, written out
 --     a, b                        == its process events
 --     Figure                      == what one figure says
@@ -17,6 +17,8 @@
 --     P1 … P11                    == the figures
 --     hard-fork                   == the figure of request 4
 --     figures                     == all of them, in a single list
+--     LoopedAt v                  == what 02, wish 3, makes of `looped`: refusal 5 names v
+--     LowestOnCycle               == it names 3
 --     AllHold fs                  == every figure of the list holds: the one claim, proved in proofs/Figures.antt for `figures`
 -- Assumes nothing.
 use mathlib.Core.Path.{_≡_}
@@ -25,7 +27,8 @@ use Prim.Native.Nat.{ℕ, _+_, _-_, _*_, _<_}
 use lib.IntN.{ℤ, pos, negℤ, _+ℤ_}
 use lib.ListN.{length, getD}
 use Rattle.graphs.specs.Graph.{Graph, graphOf, rules}
-use Rattle.graphs.specs.Path.{Depth}
+use Rattle.graphs.specs.Path.{OnCycle, Depth}
+use Rattle.verdicts.specs.Verdict.{Lowest}
 use Rattle.graphs.specs.Limits.{EventGraph}
 use Rattle.executions.specs.Separation.{Separation}
 use Rattle.executions.specs.Schedule.{Schedule}
@@ -56,6 +59,12 @@ pair = graphOf 2 (0 ∷ 0 ∷ []) (1 ∷ 1 ∷ []) (pos 1 ∷ pos 0 ∷ []) (pos
 -- "0→1 [−3, −1]"
 abbrev pub below : Graph
 below = graphOf 2 (0 ∷ []) (1 ∷ []) (negℤ (pos 3) ∷ []) (negℤ (pos 1) ∷ [])
+
+-- 0→1, 3→4, 4→3, 3→2, 0→3, each [0, 0]: the events 3 and 4 lie on a cycle, event 2 stands behind it
+abbrev pub looped : Graph
+looped =
+    graphOf 5 (0 ∷ 3 ∷ 4 ∷ 3 ∷ 0 ∷ []) (1 ∷ 4 ∷ 3 ∷ 2 ∷ 3 ∷ []) (pos 0 ∷ pos 0 ∷ pos 0 ∷ pos 0 ∷ pos 0 ∷ [])
+    (pos 0 ∷ pos 0 ∷ pos 0 ∷ pos 0 ∷ pos 0 ∷ [])
 
 -- "events a = 0 and b = 1, templates a→a [4, 10] mark 1, a→b [1, 1] mark 0, b→a [1, 1] mark 1, b→b [5, 20] mark 1"
 abbrev pub fig1 : ProcessGraph
@@ -201,6 +210,14 @@ hard-fork = hard-separation-is fork 0 3 (pos 3)
 -- "P1 to P11 are proved about the definitions, gathered as a single list under one claim": with P11 the list stands whole
 abbrev pub figures : List Figure
 figures = P1 ∷ P2 ∷ P3 ∷ P4 ∷ P5 ∷ P6 ∷ P7 ∷ P8 ∷ P9 ∷ P10 ∷ P11 ∷ hard-fork ∷ []
+
+-- "The cycle refusal must name the lowest-numbered event that lies on a cycle"
+abbrev pub LoopedAt : ℕ → Type 0
+LoopedAt v = Lowest (OnCycle looped) v
+
+-- what is left over when events without waiting rules are taken away has event 2 too, which lies on no cycle
+abbrev pub LowestOnCycle : Type 0
+LowestOnCycle = LoopedAt 3
 
 abbrev pub AllHold : List Figure → Type 0
 AllHold [] = Unit {0}

@@ -3,7 +3,7 @@
 --     kept-of             unfolding refuses nothing only where all is kept
 --     kept-accepted       and where all is kept and the lists are long enough, it refuses nothing
 --     instance-sized      the instance of a kept template at a k below K has known ends and delays inside
---     unfolded-sized      the unfolding passes the analysis's refusals 1, 2 and 3
+--     unfolded-sized      the unfolding passes the analysis's refusals 21, 22, 2 and 3
 --     past-question       asked about two of its events, it passes refusal 4 too, and what comes after decides
 --     only-paths-refused  so the analysis refuses it only with 5 or 6
 --     handed              the lists that an accepted unfolding leaves are the unfolding of a process graph that is kept
@@ -34,10 +34,10 @@ use Rattle.processes.proofs.Refusals.{TemplatesKept, Kept, process-none
 
 -- ---- a process graph that is kept
 
--- "unfolding 1, 2, 3, 7": where the verdict is 0 none applies
+-- "unfolding 1, 2, 3, 7", with "21, 22, 24, 23 where 1 stood": where the verdict is 0 none applies
 pub kept-of : {g : ProcessGraph} {K : ℕ} {Short : Type 0} {j p : ℕ} → UnfoldingVerdict g K Short j p → j ≡ 0 → (Kept g K) × (Short → ⊥)
 kept-of {g} {K} {Short} {j} {p} v e =
-    process-kept (accepted-none (processChecks g K Short) Accepted (omega arith, (omega arith, (omega arith, (omega arith, tt)))) j p e v .0)
+    process-kept (accepted-none (processChecks g K Short) Accepted (omega arith, (omega arith, (omega arith, (omega arith, (omega arith, (omega arith, (omega arith, tt))))))) j p e v .0)
 
 pub kept-accepted : {g : ProcessGraph} {K : ℕ} {Short : Type 0} → Kept g K → (Short → ⊥) → UnfoldingVerdict g K Short 0 0
 kept-accepted {g} {K} {Short} kept room = none-accepted (processChecks g K Short) (process-none room kept)
@@ -111,7 +111,7 @@ module _ {g : ProcessGraph} {K : ℕ} {graph : Graph} (kept : Kept g K) (unfolds
 
 -- ---- what the analysis says of it
 
--- a graph that passes 1, 2 and 3, asked about two of its events: what comes after 4 decides
+-- a graph that passes 21, 22, 2 and 3, asked about two of its events: what comes after 4 decides
 pub past-question : {graph : Graph} {s t : ℕ} {Short : Type 0} {Rest : ℕ → ℕ → Type 0} {j p : ℕ}
     → Sized 1000000 graph → (Short → ⊥) → s < graph .events → t < graph .events → analysis.InputVerdict graph s t Short Rest j p → Rest j p
 past-question {graph} {s} {t} {Short} {Rest} {j} {p} sized room hs ht v =

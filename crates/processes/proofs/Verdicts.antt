@@ -1,7 +1,7 @@
 -- The answer to an unfolding, put together from the checks.
 --     known-kept, inside-kept                          what a search calls good is kept
 --     lowest-unknown, lowest-outside, lowest-broken    a search that stopped has found the lowest template that breaks the rule
---     process-1 … process-7, process-0                 the refusals, each from the facts that shut out the earlier ones, and that none applies
+--     process-counts, process-23 … process-7, process-0    the refusals, each from the facts that shut out the earlier ones, and that none applies
 --     refusal-checked, kept-checked                    what check_process answers
 --     kept-enough                                      as many places as rules are enough
 --     some-short, shortest                             one of four lists is too short exactly where the shortest is
@@ -14,17 +14,17 @@ use native.Mathlib.Omega.{arith}
 use mathlib.Core.List.{List}
 use lib.IntN.{ℤ}
 use lib.ListN.{length}
-use Rattle.verdicts.specs.Verdict.{given, passed, Accepted, Lowest, LowestOr}
-use Rattle.verdicts.proofs.Verdicts.{none-accepted, then-alike}
+use Rattle.verdicts.specs.Verdict.{given, passed, Accepted, FirstOf, Lowest, LowestOr}
+use Rattle.verdicts.proofs.Verdicts.{misses-at-zero, none-accepted, front-given, then-alike}
 use Rattle.verdicts.proofs.Searches.{lowest-bad, as-long}
 use Rattle.graphs.specs.Limits.{EndsKept, DelaysKept}
 use Rattle.refusals.specs.Faults.{EndsKnown, EndUnknown, InsideDelays, DelaysInside, DelaysOutside}
 use Rattle.refusals.proofs.Unique.{known-not-unknown, inside-not-outside}
 use Rattle.processes.specs.declared.Unfolded.{Unfolded}
 use Rattle.processes.specs.Process.{ProcessGraph, templates, least, most}
-use Rattle.processes.specs.Unfolding.{ProcessCountsOutside, ShortRuleLists, short-sources, short-targets, short-leasts, short-mosts, UnknownTemplateEvent, TemplateDelayOutside, MarkOutside, processChecks, UnfoldingVerdict, UnfoldingAnswered}
-use Rattle.processes.specs.Parts.Checks.{ProcessCountsKept, MarkKept, MarkBroken, ProcessKept, ProcessChecked}
-use Rattle.processes.proofs.Refusals.{plain, counts-miss, ends-miss, delays-miss, process-none, short-alike, delays-first}
+use Rattle.processes.specs.Unfolding.{ShortRuleLists, short-sources, short-targets, short-leasts, short-mosts, UnknownTemplateEvent, TemplateDelayOutside, MarkOutside, processChecks, UnfoldingVerdict, UnfoldingAnswered}
+use Rattle.processes.specs.Parts.Checks.{ProcessCountsKept, processCountChecks, MarkKept, MarkBroken, ProcessKept, ProcessChecked}
+use Rattle.processes.proofs.Refusals.{plain, after-counts, short-first, ends-miss, delays-miss, process-none, short-alike, delays-first}
 
 module _ (g : ProcessGraph) where
   known-kept : ((j : ℕ) → j < templates g → EndsKnown (g .events) (g .sources) (g .targets) j) → (j : ℕ) → j < templates g → EndsKept (plain g) j
@@ -64,12 +64,15 @@ module _ {g : ProcessGraph} {r : ℕ} where
 -- ---- the verdict
 
 module _ {g : ProcessGraph} {K n : ℕ} where
-  pub process-1 : ProcessCountsOutside g K ⊎ (n < templates g * K) → UnfoldingVerdict g K (n < templates g * K) 1 0
-  process-1 h = given (record { zero-place = refl; holds = h })
+  pub process-counts : (k : ℕ) → (k ≡ 0 → ⊥) → FirstOf (processCountChecks g K) k 0 → UnfoldingVerdict g K (n < templates g * K) k 0
+  process-counts k some v = front-given (processCountChecks g K) _ k 0 some v
+
+  pub process-23 : ProcessCountsKept g K → n < templates g * K → UnfoldingVerdict g K (n < templates g * K) 23 0
+  process-23 counts l = short-first counts l
 
   module _ (counts : ProcessCountsKept g K) (room : templates g * K ≤ n) where
     pub process-2 : {p : ℕ} → Lowest (UnknownTemplateEvent g) p → UnfoldingVerdict g K (n < templates g * K) 2 p
-    process-2 h = passed (counts-miss (λ l. omega arith) counts) (given h)
+    process-2 {p} h = after-counts counts _ 2 p (passed (misses-at-zero (λ l. omega arith)) (given h))
 
     module _ (known : (j : ℕ) → j < templates g → EndsKnown (g .events) (g .sources) (g .targets) j) where
       pub process-3 : {p : ℕ} → Lowest (TemplateDelayOutside g) p → UnfoldingVerdict g K (n < templates g * K) 3 p
@@ -77,9 +80,9 @@ module _ {g : ProcessGraph} {K n : ℕ} where
 
       module _ (inside : (j : ℕ) → j < templates g → InsideDelays (least g j) (most g j)) where
         pub process-7 : {p : ℕ} → Lowest (MarkOutside g) p → UnfoldingVerdict g K (n < templates g * K) 7 p
-        process-7 h =
-            passed (counts-miss (λ l. omega arith) counts)
-            (passed (ends-miss (known-kept g known)) (passed (delays-miss (inside-kept g inside)) (given h)))
+        process-7 {p} h =
+            after-counts counts _ 7 p
+            (passed (misses-at-zero (λ l. omega arith)) (passed (ends-miss (known-kept g known)) (passed (delays-miss (inside-kept g inside)) (given h))))
 
         pub process-0 : ((j : ℕ) → j < templates g → MarkKept (g .marks) j) → UnfoldingVerdict g K (n < templates g * K) 0 0
         process-0 marked =

@@ -1,4 +1,4 @@
-// The answer to an unfolding: the refusals 1, 2, 3, 7 in this order, or both counts.
+// The answer to an unfolding: the refusals 21, 22, 24, 23, 2, 3, 7 in this order, or both counts.
 ghost use mathlib.Core.Path.{_≡_};
 ghost use mathlib.Core.Logic.{_⊎_};
 ghost use Prim.Native.Nat.{ℕ, _<_, _≤_};
@@ -6,7 +6,7 @@ ghost use Rattle.processes.specs.Process.{processOf};
 ghost use Rattle.processes.specs.Parts.Checks.{ProcessChecked};
 use crate::Unfolded;
 use crate::checks::broken_mark;
-use crate::checks::counts_kept;
+use crate::checks::check_counts;
 
 // Refusal `number` at `place`: both counts are 0.
 fn refused(number: usize, place: usize) -> Unfolded
@@ -47,12 +47,13 @@ pub(crate) fn check_process(
 ) -> Unfolded
     ensures { λ r. ⌜ ProcessChecked (processOf p (now (sources .entry)) (now (targets .entry)) (now (leasts .entry)) (now (mosts .entry)) (now (marks .entry))) copies places r ⌝ }
 {
-    if !counts_kept(p, copies, sources, targets, leasts, mosts, marks) {
-        return refused(1, 0);
+    let counts = check_counts(p, copies, sources, targets, leasts, mosts, marks);
+    if counts != 0 {
+        return refused(counts, 0);
     }
     let rules = sources.len() * copies;
     if places < rules {
-        return refused(1, 0);
+        return refused(23, 0);
     }
     let unknown = refusals::unknown_event(p, sources, targets);
     if unknown < sources.len() {

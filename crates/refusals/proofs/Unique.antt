@@ -2,12 +2,11 @@
 --     known-not-unknown, inside-not-outside       an entry has a fault or has none, not both
 --     lowest-or-unique                            a search in which nothing is both good and bad has one answer
 --     unknown-event-unique, outside-delay-unique  so has each of the two searches
---     counts-kept-unique                          the counts are kept or are not
+--     check-counts-unique                         the counts of a graph have one refusal
 --     same-refusal                                a refusal is its number and place
 --     check-input-unique                          a question has one number and place
 -- Assumes nothing.
 use mathlib.Core.Path.{_≡_, refl, sym, ap, _∙_}
-use mathlib.Core.Bool.{Bool, true, false}
 use mathlib.Core.Logic.{⊎-elim}
 use mathlib.Core.List.{List, [], _∷_}
 use Prim.Native.Nat.{ℕ, _<_, min}
@@ -15,13 +14,12 @@ use native.Mathlib.Omega.{arith}
 use lib.IntN.{ℤ}
 use lib.ListN.{length}
 use Rattle.graphs.specs.Graph.{Graph, graphOf}
-use Rattle.graphs.specs.Refusal.{BeyondDelays, questionChecksTo}
-use Rattle.graphs.proofs.Unique.{counts-not-outside, delays-kept}
-use Rattle.graphs.proofs.Refusals.{question-places}
+use Rattle.graphs.specs.Refusal.{BeyondDelays, countChecks, questionChecksTo}
+use Rattle.graphs.proofs.Unique.{delays-kept}
+use Rattle.graphs.proofs.Refusals.{count-places, question-places}
 use Rattle.verdicts.specs.Verdict.{LowestOr, FirstOf}
 use Rattle.verdicts.proofs.Verdicts.{one-verdict}
 use Rattle.refusals.specs.declared.Refusal.{Refusal}
-use Rattle.refusals.specs.Counts.{CountsChecked}
 use Rattle.refusals.specs.Faults.{EndsKnown, EndUnknown, BoundedDelays, DelaysInside, DelaysOutside}
 
 pub known-not-unknown : {n : ℕ} {ss ts : List ℕ} {i : ℕ} → EndsKnown n ss ts i → EndUnknown n ss ts i → ⊥
@@ -56,14 +54,8 @@ module _ (ds Ds : List ℤ) {p q : ℕ} where
       p ≡ q
   outside-delay-unique = lowest-or-unique (λ i. inside-not-outside)
 
-pub counts-kept-unique : {g : Graph} {a b : Bool} → CountsChecked g a → CountsChecked g b → a ≡ b
-counts-kept-unique {g} {a} {b} x y = by a b x y
-  where
-    by : (a b : Bool) → CountsChecked g a → CountsChecked g b → a ≡ b
-    by true true x y = refl
-    by true false x y = absurd (counts-not-outside (x .kept refl) (y .outside refl))
-    by false true x y = absurd (counts-not-outside (y .kept refl) (x .outside refl))
-    by false false x y = refl
+pub check-counts-unique : {top most : ℕ} {g : Graph} {a b : ℕ} → FirstOf (countChecks top most g) a 0 → FirstOf (countChecks top most g) b 0 → a ≡ b
+check-counts-unique {top} {most} {g} v w = one-verdict (countChecks top most g) (count-places g) _ _ _ _ v w .0
 
 -- a refusal is its number and place
 pub same-refusal : {a b : Refusal} → (a .number ≡ b .number) × (a .place ≡ b .place) → a ≡ b

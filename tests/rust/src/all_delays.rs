@@ -10,6 +10,7 @@
 //! | coarse form | every bound moved outward tick by tick to a multiple of q, then as above |
 //! | hard deadlines | of all these executions, those in which every rule's two times differ by least to most |
 //! | schedule | what was written is tested against 01's sentence |
+//! | claim | an execution where some choice of delays is its list and gives its times; the broken event by 01's sentences, in 128 bits |
 //! | unfolding | the report's set R, cut off at K, its events listed by number |
 
 #[derive(Clone, Copy, Debug, PartialEq, Eq)]
@@ -176,8 +177,9 @@ fn led_to(from: usize, rules: &[Rule]) -> Vec<usize> {
     }
 }
 
-fn has_cycle(events: usize, rules: &[Rule]) -> bool {
-    (0..events).any(|event| led_to(event, rules).contains(&event))
+/// The lowest event that a rule or more lead back to.
+fn lowest_on_cycle(events: usize, rules: &[Rule]) -> Option<usize> {
+    (0..events).find(|event| led_to(*event, rules).contains(event))
 }
 
 fn lowest_unreached(events: usize, rules: &[Rule]) -> Option<usize> {
@@ -216,18 +218,27 @@ fn delay_outside(rule: &Rule) -> bool {
     !inside.contains(&rule.least) || !inside.contains(&rule.most) || rule.least > rule.most
 }
 
-fn counts_outside(given: &Given, form: Form) -> bool {
+/// 21 for the events, 22 for the rules, 23 for the lent lists, in this order.
+fn counts_refused(given: &Given, form: Form) -> Option<usize> {
     let short = match form {
         Form::Schedule(times, delays) => times < given.events || delays < given.sources.len(),
         _ => false,
     };
-    given.events == 0 || given.events > 1_024 || given.sources.len() > 4_096 || given.lists_differ() || short
+    if given.events == 0 || given.events > 1_024 {
+        Some(21)
+    } else if given.sources.len() > 4_096 || given.lists_differ() {
+        Some(22)
+    } else if short {
+        Some(23)
+    } else {
+        None
+    }
 }
 
 /// The number and place of the first refusal that applies.
 pub fn refusal(given: &Given, form: Form, s: usize, t: usize) -> Option<(usize, usize)> {
-    if counts_outside(given, form) {
-        return Some((1, 0));
+    if let Some(number) = counts_refused(given, form) {
+        return Some((number, 0));
     }
     let events = given.events;
     let rules = given.rules();
@@ -244,8 +255,8 @@ pub fn refusal(given: &Given, form: Form, s: usize, t: usize) -> Option<(usize, 
         Form::Coarse(q) if q == 0 || q > 1_000 => return Some((9, q)),
         _ => {}
     }
-    if has_cycle(events, &rules) {
-        return Some((5, 0));
+    if let Some(event) = lowest_on_cycle(events, &rules) {
+        return Some((5, event));
     }
     lowest_unreached(events, &rules).map(|event| (6, event))
 }
@@ -302,6 +313,75 @@ fn greatest_delay(rule: &Rule, times: &[i64]) -> Option<i64> {
     None
 }
 
+// ---- claims
+
+/// What is said of a claim that isn't refused.
+#[derive(Clone, Copy, Debug, PartialEq, Eq)]
+pub enum Verdict {
+    Maximum,
+    Below,
+    Broken(usize),
+    Differs,
+}
+
+/// The refusal of a claim with so many times and delays: the question's, with 22 for wrong lists after 21.
+pub fn claim_refusal(given: &Given, s: usize, t: usize, times: usize, delays: usize) -> Option<(usize, usize)> {
+    let wrong = times != given.events || delays != given.sources.len();
+    match refusal(given, Form::Exact, s, t) {
+        Some((21, place)) => Some((21, place)),
+        _ if wrong => Some((22, 0)),
+        other => other,
+    }
+}
+
+/// Whether the two lists are an execution: every choice of delays is made, and where it is the list, the times that follow are compared.
+fn is_execution(rules: &[Rule], times: &[i64], delays: &[i64]) -> bool {
+    let into: Vec<Vec<usize>> = (0..times.len()).map(|event| rules_into(event, rules)).collect();
+    let mut known = vec![None; times.len()];
+    let mut choice: Vec<i64> = rules.iter().map(|rule| rule.least).collect();
+    loop {
+        if choice == delays {
+            return execution(rules, &into, &choice, &mut known) == times;
+        }
+        if !next_choice(rules, &mut choice) {
+            return false;
+        }
+    }
+}
+
+/// Whether an event breaks one of 01's sentences.
+fn is_broken(event: usize, rules: &[Rule], times: &[i64], delays: &[i64]) -> bool {
+    let into = rules_into(event, rules);
+    let outside = into.iter().any(|&i| delays[i] < rules[i].least || delays[i] > rules[i].most);
+    let arrivals = into.iter().map(|&i| times[rules[i].source] as i128 + delays[i] as i128);
+    let due = if event == 0 { Some(0) } else { arrivals.max() };
+    outside || due != Some(times[event] as i128)
+}
+
+/// The verdict on a claim that isn't refused. `greatest` is the maximum.
+pub fn verdict(
+    rules: &[Rule],
+    s: usize,
+    t: usize,
+    claimed: i64,
+    greatest: i64,
+    times: &[i64],
+    delays: &[i64],
+) -> Verdict {
+    let broken = (0..times.len()).find(|&event| is_broken(event, rules, times, delays));
+    assert_eq!(
+        broken.is_none(),
+        is_execution(rules, times, delays),
+        "no event is broken exactly if it is an execution"
+    );
+    match broken {
+        Some(event) => Verdict::Broken(event),
+        None if times[t] - times[s] != claimed => Verdict::Differs,
+        None if claimed == greatest => Verdict::Maximum,
+        None => Verdict::Below,
+    }
+}
+
 // ---- unfoldings
 
 /// A process graph as it is handed in, with K and the lengths of the four lent lists.
@@ -323,16 +403,25 @@ impl GivenProcess {
         self.templates.events as u128 * self.copies as u128
     }
 
-    fn counts_outside(&self) -> bool {
+    /// 21 for the events, 22 for the templates, 24 for the unfolding, 23 for the lent lists, in this order.
+    fn counts_refused(&self) -> Option<usize> {
         let lists_differ = self.templates.lists_differ() || self.marks.len() != self.templates.sources.len();
-        let short = self.lent.iter().any(|&length| (length as u128) < self.written());
-        let none = self.templates.events == 0 || self.copies == 0;
-        none || lists_differ || short || self.last_event() > 1_023 || self.written() > 4_096
+        if self.templates.events == 0 || self.templates.events > 1_023 {
+            Some(21)
+        } else if self.templates.sources.len() > 4_096 || lists_differ {
+            Some(22)
+        } else if self.copies == 0 || self.last_event() > 1_023 || self.written() > 4_096 {
+            Some(24)
+        } else if self.lent.iter().any(|&length| (length as u128) < self.written()) {
+            Some(23)
+        } else {
+            None
+        }
     }
 
     pub fn refusal(&self) -> Option<(usize, usize)> {
-        if self.counts_outside() {
-            return Some((1, 0));
+        if let Some(number) = self.counts_refused() {
+            return Some((number, 0));
         }
         let events = self.templates.events;
         let templates = self.templates.rules();

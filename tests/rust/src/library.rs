@@ -1,6 +1,6 @@
 //! The C entries of the static library, as include/crankforest.h declares them, and safe functions over them on slices.
 
-/// The four lists of a graph's rules. They may differ in length: that is refusal 1.
+/// The four lists of a graph's rules. They may differ in length: that is refusal 22.
 #[derive(Clone, Copy, Debug)]
 pub struct Rules<'a> {
     pub sources: &'a [usize],

@@ -24,10 +24,12 @@ fn refuse<T>(number: usize, place: usize) -> Result<T, Refusal> {
 fn check_counts(n: usize, rules: Rules) -> Result<(), Refusal> {
     let r = rules.sources.len();
     let alike = rules.targets.len() == r && rules.leasts.len() == r && rules.mosts.len() == r;
-    if alike && (1..=MOST_EVENTS).contains(&n) && r <= MOST_RULES {
-        Ok(())
+    if !(1..=MOST_EVENTS).contains(&n) {
+        refuse(21, 0)
+    } else if !alike || r > MOST_RULES {
+        refuse(22, 0)
     } else {
-        refuse(1, 0)
+        Ok(())
     }
 }
 
@@ -74,6 +76,25 @@ struct Arranged {
     order: Vec<usize>,
 }
 
+/// The lowest event that lies on a cycle: the first from which rules lead back to it.
+fn lowest_on_cycle(n: usize, rules: Rules, out_of: &[Vec<usize>]) -> usize {
+    let leads_back = |v: usize| {
+        let mut seen = vec![false; n];
+        let mut next = vec![v];
+        while let Some(u) = next.pop() {
+            for &i in &out_of[u] {
+                let w = rules.targets[i];
+                if !seen[w] {
+                    seen[w] = true;
+                    next.push(w);
+                }
+            }
+        }
+        seen[v]
+    };
+    (0..n).find(|&v| leads_back(v)).expect("there is a cycle")
+}
+
 /// Kahn's order, or refusal 5.
 fn arrange(n: usize, rules: Rules) -> Result<Arranged, Refusal> {
     let mut into = vec![Vec::new(); n];
@@ -96,7 +117,7 @@ fn arrange(n: usize, rules: Rules) -> Result<Arranged, Refusal> {
         next += 1;
     }
     if order.len() < n {
-        return refuse(5, 0);
+        return refuse(5, lowest_on_cycle(n, rules, &out_of));
     }
     Ok(Arranged { into, out_of, order })
 }
@@ -191,8 +212,11 @@ pub fn exact(n: usize, rules: Rules, s: usize, t: usize) -> Answer {
 // ---- the schedule
 
 pub fn schedule(n: usize, rules: Rules, s: usize, t: usize, times: &mut [i64], delays: &mut [i64]) -> Answer {
+    if let Err(refusal) = check_counts(n, rules) {
+        return Answer::refused(refusal.number, refusal.place);
+    }
     if times.len() < n || delays.len() < rules.sources.len() {
-        return Answer::refused(1, 0);
+        return Answer::refused(23, 0);
     }
     let found = try_exact(n, rules, s, t);
     if let Ok(latest) = &found {
@@ -274,8 +298,11 @@ pub fn hard(n: usize, rules: Rules, s: usize, t: usize) -> HardAnswer {
 }
 
 pub fn hard_schedule(n: usize, rules: Rules, s: usize, t: usize, times: &mut [i64], delays: &mut [i64]) -> HardAnswer {
+    if let Err(refusal) = check_counts(n, rules) {
+        return HardAnswer::refused(refusal.number, refusal.place);
+    }
     if times.len() < n || delays.len() < rules.sources.len() {
-        return HardAnswer::refused(1, 0);
+        return HardAnswer::refused(23, 0);
     }
     match try_hard(n, rules, s, t) {
         Ok((answer, gaps)) => {
@@ -298,12 +325,21 @@ fn check_process(p: usize, copies: usize, templates: Templates, places: usize) -
     let rules = templates.rules;
     let count = rules.sources.len();
     let lengths = [rules.targets.len(), rules.leasts.len(), rules.mosts.len(), templates.marks.len()];
+    if !(1..MOST_EVENTS).contains(&p) {
+        return refuse(21, 0);
+    }
+    if count > MOST_RULES || lengths.iter().any(|&length| length != count) {
+        return refuse(22, 0);
+    }
     let occurrences = p.checked_mul(copies).filter(|&o| (1..MOST_EVENTS).contains(&o));
-    let written = count.checked_mul(copies).filter(|&w| w <= MOST_RULES && w <= places);
+    let written = count.checked_mul(copies).filter(|&w| w <= MOST_RULES);
     let (events, written) = match (occurrences, written) {
-        (Some(o), Some(w)) if lengths.iter().all(|&length| length == count) => (1 + o, w),
-        _ => return refuse(1, 0),
+        (Some(o), Some(w)) => (1 + o, w),
+        _ => return refuse(24, 0),
     };
+    if places < written {
+        return refuse(23, 0);
+    }
     check_events(p, rules)?;
     check_delays(rules)?;
     match templates.marks.iter().position(|&mark| mark > 1) {

@@ -180,11 +180,11 @@ fn limits_of_the_analysis() {
     for forms in BOTH {
         let exact = |graph: &Graph, s, t| (forms.exact)(graph.events, graph.rules(), s, t);
         assert_eq!(exact(&chain(1_024, 1, 2), 0, 1_023), Answer::found(2_046, 0, 1_023));
-        assert_eq!(exact(&chain(1_025, 1, 2), 0, 1), Answer::refused(1, 0));
-        assert_eq!(exact(&Graph::new(0, &[]), 0, 0), Answer::refused(1, 0));
-        assert_eq!(exact(&Graph::new(usize::MAX, &[]), 0, 0), Answer::refused(1, 0));
+        assert_eq!(exact(&chain(1_025, 1, 2), 0, 1), Answer::refused(21, 0));
+        assert_eq!(exact(&Graph::new(0, &[]), 0, 0), Answer::refused(21, 0));
+        assert_eq!(exact(&Graph::new(usize::MAX, &[]), 0, 0), Answer::refused(21, 0));
         assert_eq!(exact(&Graph::new(2, &[(0, 1, 0, 3); 4_096]), 0, 1), Answer::found(3, 0, 1));
-        assert_eq!(exact(&Graph::new(2, &[(0, 1, 0, 3); 4_097]), 0, 1), Answer::refused(1, 0));
+        assert_eq!(exact(&Graph::new(2, &[(0, 1, 0, 3); 4_097]), 0, 1), Answer::refused(22, 0));
         assert_eq!(exact(&Graph::new(2, &[(0, 1, -1_000_000, 1_000_000)]), 0, 1), Answer::found(1_000_000, 0, 1));
         assert_eq!(exact(&Graph::new(2, &[(0, 1, 0, 1_000_001)]), 0, 1), Answer::refused(3, 0));
         assert_eq!(exact(&Graph::new(2, &[(0, 1, -1_000_001, 0)]), 0, 1), Answer::refused(3, 0));
@@ -238,9 +238,12 @@ fn order_of_the_refusals() {
         assert_eq!(exact(&Graph::new(2, &[(1, 1, 1, 1)]), 0, 2), Answer::refused(4, 1));
         assert_eq!(coarse(&Graph::new(2, &[(1, 1, 1, 1)]), 0, 2, 0), Answer::refused(4, 1));
         assert_eq!(coarse(&Graph::new(2, &[(1, 1, 1, 1)]), 0, 1, 0), Answer::refused(9, 0));
-        assert_eq!(coarse(&Graph::new(2, &[(1, 1, 1, 1)]), 0, 1, 5), Answer::refused(5, 0));
+        assert_eq!(coarse(&Graph::new(2, &[(1, 1, 1, 1)]), 0, 1, 5), Answer::refused(5, 1));
         // a cycle and an unreached event
-        assert_eq!(exact(&Graph::new(3, &[(1, 1, 0, 0)]), 0, 0), Answer::refused(5, 0));
+        assert_eq!(exact(&Graph::new(3, &[(1, 1, 0, 0)]), 0, 0), Answer::refused(5, 1));
+        // event 2 stands behind the cycle of 3 and 4
+        let behind = [(0, 1, 0, 0), (3, 4, 0, 0), (4, 3, 0, 0), (3, 2, 0, 0), (0, 3, 0, 0)];
+        assert_eq!(exact(&Graph::new(5, &behind), 0, 0), Answer::refused(5, 3));
         assert_eq!(exact(&Graph::new(2, &[(1, 0, 0, 0)]), 0, 0), Answer::refused(6, 1));
         assert_eq!(exact(&Graph::new(3, &[(0, 1, 0, 0), (2, 1, 0, 0)]), 0, 0), Answer::refused(6, 2));
         assert_eq!(exact(&Graph::new(1_024, &[]), 0, 0), Answer::refused(6, 1));
@@ -254,13 +257,17 @@ fn lent_lists_are_held_to_their_needs() {
         for (times_length, delays_length) in [(3, 3), (4, 2), (0, 0)] {
             let (mut times, mut delays) = (lent_list(times_length), lent_list(delays_length));
             let answer = (forms.schedule)(4, graph.rules(), 2, 3, &mut times, &mut delays);
-            assert_eq!(answer, Answer::refused(1, 0));
+            assert_eq!(answer, Answer::refused(23, 0));
             assert_eq!((times, delays), (lent_list(times_length), lent_list(delays_length)));
         }
         // a short list comes before an unknown event
         let unknown = Graph::new(1, &[(0, 7, 0, 0)]);
         let answer = (forms.schedule)(1, unknown.rules(), 0, 0, &mut lent_list(1), &mut []);
-        assert_eq!(answer, Answer::refused(1, 0));
+        assert_eq!(answer, Answer::refused(23, 0));
+        // and after the counts
+        let many = Graph::new(2, &[(0, 1, 0, 0); 4_097]);
+        let answer = (forms.schedule)(2, many.rules(), 0, 0, &mut [], &mut []);
+        assert_eq!(answer, Answer::refused(22, 0));
         // every event is scheduled, also one with no path to s
         let star = Graph::new(3, &[(0, 1, 0, 5), (0, 2, 0, 5)]);
         let (mut times, mut delays) = (lent_list(3), lent_list(2));
@@ -282,14 +289,18 @@ fn limits_of_the_unfolding() {
         };
         let refused = |number, place| (Unfolded::refused(number, place), true);
         assert_eq!(unfold(31, 33, &one, &[1], 33), (Unfolded::found(1_024, 33), false));
-        assert_eq!(unfold(31, 34, &one, &[1], 34), refused(1, 0));
-        assert_eq!(unfold(31, 33, &one, &[1], 32), refused(1, 0));
-        assert_eq!(unfold(31, 33, &one, &[], 33), refused(1, 0));
-        assert_eq!(unfold(0, 1, &one, &[1], 33), refused(1, 0));
-        assert_eq!(unfold(31, 0, &one, &[1], 33), refused(1, 0));
-        assert_eq!(unfold(1 << 63, 2, &one, &[1], 33), refused(1, 0));
-        assert_eq!(unfold(2, 1 << 63, &one, &[1], 33), refused(1, 0));
-        assert_eq!(unfold(1, 1 << 62, &four, &[0; 4], 33), refused(1, 0));
+        assert_eq!(unfold(31, 34, &one, &[1], 34), refused(24, 0));
+        assert_eq!(unfold(31, 33, &one, &[1], 32), refused(23, 0));
+        assert_eq!(unfold(31, 33, &one, &[], 33), refused(22, 0));
+        assert_eq!(unfold(0, 1, &one, &[1], 33), refused(21, 0));
+        assert_eq!(unfold(31, 0, &one, &[1], 33), refused(24, 0));
+        assert_eq!(unfold(0, 0, &one, &[], 0), refused(21, 0));
+        assert_eq!(unfold(1_024, 1, &one, &[1], 33), refused(21, 0));
+        assert_eq!(unfold(1_023, 2, &one, &[1], 0), refused(24, 0));
+        assert_eq!(unfold(31, 0, &one, &[], 0), refused(22, 0));
+        assert_eq!(unfold(1 << 63, 2, &one, &[1], 33), refused(21, 0));
+        assert_eq!(unfold(2, 1 << 63, &one, &[1], 33), refused(24, 0));
+        assert_eq!(unfold(1, 1 << 62, &four, &[0; 4], 33), refused(24, 0));
         assert_eq!(unfold(1, 1_023, &four, &[0; 4], 5_000), (Unfolded::found(1_024, 4_092), false));
         assert_eq!(unfold(30, 33, &one, &[2], 33), refused(2, 0));
         assert_eq!(unfold(2, 1, &crossed, &[5, 5], 2), refused(2, 1));
@@ -298,7 +309,7 @@ fn limits_of_the_unfolding() {
         assert_eq!(unfold(31, 33, &one, &[(1 << 32) + 1], 33), refused(7, 0));
         assert_eq!(unfold(3, 2, &Graph::new(3, &[]), &[], 0), (Unfolded::found(7, 0), true));
         let many = Graph::new(2, &vec![(0, 1, 0, 0); 1_366]);
-        assert_eq!(unfold(2, 3, &many, &[0; 1_366], 5_000), refused(1, 0));
+        assert_eq!(unfold(2, 3, &many, &[0; 1_366], 5_000), refused(24, 0));
         let fewer = Graph::new(2, &vec![(0, 1, 0, 0); 1_365]);
         assert_eq!(unfold(2, 3, &fewer, &[0; 1_365], 5_000), (Unfolded::found(7, 4_095), false));
     }

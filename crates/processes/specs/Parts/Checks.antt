@@ -1,20 +1,21 @@
 -- What the checks on a process graph find, and what holds once they have passed.
 --     ProcessCountsKept g K          == the counts of g and K are within their limits, and the five lists have one entry for each template
---     ProcessCountsChecked g K b     == b is true and the counts are kept, or b is false and one is outside
+--     processCountChecks g K         == the refusals 21, 22, 24: those of the counts
 --     MarkKept ms j, MarkBroken ms j == the offset mark of template j is 0 or 1, or neither
 --     ProcessKept g K n              == nothing is refused: the counts, the events and the marks are kept, and n places are enough
 --     ProcessChecked g K n a         == a is the answer where the shortest lent list has n places
 -- Templates with marks ms, K copies. Events and delays are checked as those of a graph, by the crate faults. Assumes nothing.
 use mathlib.Core.Path.{_≡_}
-use mathlib.Core.Bool.{Bool, true, false}
 use mathlib.Core.Logic.{_⊎_}
-use mathlib.Core.List.{List}
+use mathlib.Core.List.{List, [], _∷_}
 use Prim.Native.Nat.{ℕ, _+_, _*_, _<_, _≤_}
 use lib.ListN.{length, getD}
+use Rattle.verdicts.specs.Verdict.{Check, check, AtZero}
+use Rattle.graphs.specs.Refusal.{EventsOutside}
 use Rattle.refusals.specs.Faults.{EndsKnown}
 use Rattle.processes.specs.declared.Unfolded.{Unfolded}
 use Rattle.processes.specs.Process.{ProcessGraph, templates}
-use Rattle.processes.specs.Unfolding.{ProcessCountsOutside, UnfoldingAnswered}
+use Rattle.processes.specs.Unfolding.{TemplatesOutside, UnfoldingOutside, UnfoldingAnswered}
 
 pub record ProcessCountsKept (g : ProcessGraph) (K : ℕ) : Type 0 where
   pub some-event : 0 < g .events
@@ -26,9 +27,8 @@ pub record ProcessCountsKept (g : ProcessGraph) (K : ℕ) : Type 0 where
   pub mosts-match : length (g .mosts) ≡ templates g
   pub marks-match : length (g .marks) ≡ templates g
 
-pub record ProcessCountsChecked (g : ProcessGraph) (K : ℕ) (b : Bool) : Type 0 where
-  pub kept : b ≡ true → ProcessCountsKept g K
-  pub outside : b ≡ false → ProcessCountsOutside g K
+abbrev pub processCountChecks : ProcessGraph → ℕ → List Check
+processCountChecks g K = check 21 (AtZero (EventsOutside 1023 (g .events))) ∷ check 22 (AtZero (TemplatesOutside g)) ∷ check 24 (AtZero (UnfoldingOutside g K)) ∷ []
 
 abbrev pub MarkKept : List ℕ → ℕ → Type 0
 MarkKept ms j = (getD ms j 0 ≡ 0) ⊎ (getD ms j 0 ≡ 1)

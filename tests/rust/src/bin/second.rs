@@ -6,9 +6,10 @@
 //! how many were compared of each kind and how many differ, the first ten in full. Exit status 1: some differ; 2: it was called wrongly.
 
 use crankforest_tests::all_delays::{
-    choices, depths, greatest, hard_greatest, hard_schedule_fault, outward, refusal, schedule_fault, unfolding, Form,
-    Given, GivenProcess, Rule,
+    choices, claim_refusal, depths, greatest, hard_greatest, hard_schedule_fault, outward, refusal, schedule_fault,
+    unfolding, verdict, Form, Given, GivenProcess, Rule, Verdict,
 };
+use crankforest_tests::claims::{self, Claim, Judged};
 use crankforest_tests::library::{self, lent_list, Answer, HardAnswer, Rules, Templates, Unfolded, Written, BEHIND};
 use crankforest_tests::random::Random;
 use crankforest_tests::small_graphs::{
@@ -64,7 +65,7 @@ impl Tally {
     }
 
     fn print(&self) {
-        for form in ["exact", "schedule", "coarse", "hard", "hard schedule", "unfolding"] {
+        for form in ["exact", "schedule", "coarse", "hard", "hard schedule", "claim", "unfolding"] {
             let counts = self.of_form(form);
             let sum: u64 = counts.iter().map(|count| count.1).sum();
             let named = counts.iter().map(|&(number, count)| match number {
@@ -282,6 +283,50 @@ fn kept_fault(times: &[i64], delays: &[i64], n: usize, r: usize) -> Option<Strin
     }
 }
 
+/// A claim about s and t: the schedule that the library writes, or zeros, with some places changed.
+fn draw_claim(known: &Known, s: usize, t: usize, random: &mut Random) -> Claim {
+    let (n, r) = (known.given.events, known.given.sources.len());
+    let right = n <= 16 && !random.once_in(6);
+    let (times, delays) = if right { (n, r) } else { (draw_length(random, n.min(16)), draw_length(random, r)) };
+    let mut claim = Claim { s, t, gap: 0, times: vec![0; times], delays: vec![0; delays] };
+    let answer = library::schedule(n, known.lists(), s, t, &mut claim.times, &mut claim.delays);
+    claim.gap = answer.separation;
+    for _ in 0..random.below(3) {
+        let list = if random.once_in(2) { &mut claim.times } else { &mut claim.delays };
+        if !list.is_empty() {
+            let at = random.below(list.len());
+            list[at] = if random.once_in(5) {
+                random.pick(&[i64::MIN, i64::MAX])
+            } else {
+                list[at].saturating_add(random.between(-2, 2))
+            };
+        }
+    }
+    if random.once_in(4) {
+        claim.gap += random.between(-1, 1);
+    }
+    claim
+}
+
+fn compare_claim(known: &mut Known, s: usize, t: usize, random: &mut Random, tally: &mut Tally) {
+    let claim = draw_claim(known, s, t, random);
+    let due = match claim_refusal(&known.given, s, t, claim.times.len(), claim.delays.len()) {
+        Some((number, place)) => Judged::refused(number, place),
+        None => {
+            let maximum = known.exact(tally)[s][t];
+            match verdict(&known.rules, s, t, claim.gap, maximum, &claim.times, &claim.delays) {
+                Verdict::Maximum => Judged::said(claims::MAXIMUM),
+                Verdict::Below => Judged::said(claims::BELOW),
+                Verdict::Broken(event) => Judged::broken(event),
+                Verdict::Differs => Judged::said(claims::DIFFERS),
+            }
+        }
+    };
+    let judged = claims::judge(known.given.events, known.lists(), &claim);
+    let difference = || format!("{}, {:?}\n    due {:?}\n    got {:?}", known.describe(s, t), claim, due, judged);
+    tally.count("claim", due.refusal, if judged == due { None } else { Some(difference()) });
+}
+
 /// Asks several questions of one graph.
 fn compare_graph(drawn: Drawn, random: &mut Random, tally: &mut Tally) {
     tally.graphs += 1;
@@ -306,6 +351,10 @@ fn compare_graph(drawn: Drawn, random: &mut Random, tally: &mut Tally) {
         let (s, t) = (draw_event(random, events), draw_event(random, events));
         let lengths = (draw_length(random, events), draw_length(random, rules));
         compare_hard_schedule(&mut known, s, t, lengths, tally);
+    }
+    for _ in 0..4 {
+        let (s, t) = (draw_event(random, events), draw_event(random, events));
+        compare_claim(&mut known, s, t, random, tally);
     }
     let own = if rounds_small(&known.given, own) { own } else { 1 };
     for _ in 0..3 {

@@ -1,17 +1,16 @@
 -- `check_process` meets its contract. Each return gives the first refusal that applies: the checks passed before shut out the earlier ones.
 -- Assumes nothing.
 use mathlib.Core.Path.{_≡_, refl, sym, _∙_}
-use mathlib.Core.Logic.{inl, inr}
 use Prim.Native.Nat.{ℕ, _*_, _<_, _≤_}
 use native.Mathlib.Omega.{arith}
 use denote.Ref.{now}
 use borrow.Author.Needs.{needs}
-use borrow.Author.Tests.{not-true, not-false}
 use Rattle.refusals.specs.Faults.{EndsKnown, InsideDelays}
 use Rattle.verdicts.proofs.Searches.{all-good, as-long}
 use Rattle.processes.specs.Process.{ProcessGraph, processOf, templates, least, most}
 use Rattle.processes.specs.Parts.Checks.{ProcessCountsKept, MarkKept}
-use Rattle.processes.proofs.Verdicts.{lowest-unknown, lowest-outside, lowest-broken, process-1, process-2, process-3, process-7, refusal-checked, kept-checked}
+use Rattle.processes.proofs.Verdicts.{lowest-unknown, lowest-outside, lowest-broken, process-counts, process-23, process-2, process-3, process-7, refusal-checked, kept-checked}
+use Rattle.processes.proofs.Refusals.{counts-from}
 use Rattle.processes.proofs.input.check_process.Statement.{statement}
 use Rattle.processes.proofs.input.check_process.Tie as tie
 
@@ -21,7 +20,7 @@ abbrev graph : tie.Start → ProcessGraph
 graph a = processOf (a .args .p) (now (a .args .sources)) (now (a .args .targets)) (now (a .args .leasts)) (now (a .args .mosts)) (now (a .args .marks))
 
 counts : (c : tie.Else1) → ProcessCountsKept (graph (c .before .before .before .before .before)) (c .before .before .before .before .before .args .copies)
-counts c = c .before .counts-kept .ensures .kept (not-false _ (c .if1 .left))
+counts c = counts-from (c .if1 .left) (c .before .check-counts .ensures)
 
 known : (c : tie.Else3) (j : ℕ) → j < templates (graph (c .before .before .before .before .before .before .before .before)) → EndsKnown (graph (c .before .before .before .before .before .before .before .before) .events) (graph (c .before .before .before .before .before .before .before .before) .sources) (graph (c .before .before .before .before .before .before .before .before) .targets) j
 known c = all-good (as-long (counts (c .before .before .before) .targets-match) (c .before .unknown-event .ensures)) (c .if3 .left)
@@ -36,16 +35,16 @@ marked c j l = all-good (c .before .broken-mark .ensures) (c .if5 .left) j (omeg
 
 -- ---- the needs
 
-counts-kept-requires : tie.Need-counts-kept-requires
-counts-kept-requires c κs = search needs
+check-counts-requires : tie.Need-check-counts-requires
+check-counts-requires c κs = search needs
 
 refused-requires : tie.Need-refused-requires
 refused-requires c κs = search needs
 
 returns : tie.Need-returns
 returns c =
-    refusal-checked 1 0 (omega arith) (c .refused .ensures)
-    (process-1 (inl (c .before .before .counts-kept .ensures .outside (not-true _ (c .before .if1 .taken)))))
+    let some = c .before .if1 .taken in
+    refusal-checked _ 0 (omega arith) (c .refused .ensures) (process-counts _ some (c .before .before .check-counts .ensures))
 
 mul-rules : tie.Need-mul-rules
 mul-rules c = record { fits = omega (arith, counts c .few-rules) }
@@ -54,7 +53,7 @@ refused-requires-2 : tie.Need-refused-requires-2
 refused-requires-2 c κs = search needs
 
 returns-2 : tie.Need-returns-2
-returns-2 c = refusal-checked 1 0 (omega arith) (c .refused2 .ensures) (process-1 (inr (c .before .if2 .taken)))
+returns-2 c = refusal-checked 23 0 (omega arith) (c .refused2 .ensures) (process-23 (counts (c .before .before)) (c .before .if2 .taken))
 
 unknown-event-requires : tie.Need-unknown-event-requires
 unknown-event-requires c κs = search needs
@@ -111,7 +110,7 @@ pub check-process-spec : {M : Type 1} → statement M
 check-process-spec =
     tie.close
     (tie.spec
-    counts-kept-requires
+    check-counts-requires
     refused-requires
     returns
     mul-rules
