@@ -1,4 +1,4 @@
--- The figures to check by, those that 01 marks P, as statements about the definitions. Document 01, section "Figures to check by".
+-- The figures to check by, those that 01 marks P and that of 02's request 4, as statements about the definitions. Document 01, section "Figures to check by".
 --     one, row, fork, pair, below, looped == the event graphs that the figures speak of
 --     fig1, fig1-unfolded         == the process graph of P11, and its unfolding, written out
 --     a, b                        == its process events
@@ -9,11 +9,13 @@
 --       coarse-is g q lows highs s t x == rounded outward to steps of q, the delays of g are lows and highs, and the coarse answer is x
 --       limit-met g q lows highs s t a d x y == x is the separation, y the coarse answer by lows and highs, a and d are the depths of s and t, and y is
 --                                    (q − 1) × (a + d) above x
+--       hard-separation-is g s t x == the same as separation-is, over all hard times of g
 --       unfolding-is g K graph    == the graph is the process graph g, unfolded K times
 --       both f h                  == f, and h
---     Holds f                     == what f says, in terms of the crates graphs, executions, rounding and processes
+--     Holds f                     == what f says, in terms of the crates graphs, executions, hardtimes, rounding and processes
 --     b-against-a k x             == x is the separation of occurrence k of b from occurrence k of a, in the unfolding of fig 1
 --     P1 … P11                    == the figures
+--     hard-fork                   == the figure of request 4
 --     figures                     == all of them, in a single list
 --     LoopedAt v                  == what 02, wish 3, makes of `looped`: refusal 5 names v
 --     LowestOnCycle               == it names 3
@@ -30,6 +32,7 @@ use Rattle.verdicts.specs.Verdict.{Lowest}
 use Rattle.graphs.specs.Limits.{EventGraph}
 use Rattle.executions.specs.Separation.{Separation}
 use Rattle.executions.specs.Schedule.{Schedule}
+use Rattle.hardtimes.specs.HardTimes.{HardSeparation}
 use Rattle.rounding.specs.Rounding.{Rounded, CoarseSeparation}
 use Rattle.processes.specs.declared.Event.{Event}
 use Rattle.processes.specs.Process.{ProcessGraph, processOf, occurrence}
@@ -92,6 +95,7 @@ pub data Figure : Type 0 where
   schedule-is : Graph → ℕ → List ℤ → List ℤ → Figure
   coarse-is : Graph → ℕ → List ℤ → List ℤ → ℕ → ℕ → ℤ → Figure
   limit-met : Graph → ℕ → List ℤ → List ℤ → ℕ → ℕ → ℕ → ℕ → ℤ → ℤ → Figure
+  hard-separation-is : Graph → ℕ → ℕ → ℤ → Figure
   unfolding-is : ProcessGraph → ℕ → Graph → Figure
   both : Figure → Figure → Figure
 
@@ -128,12 +132,20 @@ pub record LimitMet (g : Graph) (q : ℕ) (lows highs : List ℤ) (s t a d : ℕ
   pub depths : DepthsAre g s t a d
   pub limit : y ≡ x +ℤ pos ((q - 1) * (a + d))
 
+-- 02, request 4: "the greatest separation there too"
+pub record HardSeparationIs (g : Graph) (s t : ℕ) (x : ℤ) : Type 0 where
+  pub event-graph : EventGraph 1000000 g
+  pub source-event : s < g .events
+  pub target-event : t < g .events
+  pub separation : HardSeparation g s t x
+
 abbrev pub Holds : Figure → Type 0
 Holds (separation-is g s t x) = SeparationIs g s t x
 Holds (depths-are g s t a d) = DepthsAre g s t a d
 Holds (schedule-is g s times delays) = ScheduleIs g s times delays
 Holds (coarse-is g q lows highs s t x) = CoarseIs g q lows highs s t x
 Holds (limit-met g q lows highs s t a d x y) = LimitMet g q lows highs s t a d x y
+Holds (hard-separation-is g s t x) = HardSeparationIs g s t x
 -- "Unfolding it K times … gives an event graph"
 Holds (unfolding-is g K graph) = Unfolds g K graph
 Holds (both f h) = Holds f × Holds h
@@ -191,9 +203,13 @@ abbrev pub P11 : Figure
 P11 =
     both (unfolding-is fig1 3 fig1-unfolded) (both (b-against-a 0 (pos 1)) (both (b-against-a 1 (pos 17)) (b-against-a 2 (pos 19))))
 
+-- 02, request 4: "The fork of 01 gives 3 for s = 0, t = 3."
+abbrev pub hard-fork : Figure
+hard-fork = hard-separation-is fork 0 3 (pos 3)
+
 -- "P1 to P11 are proved about the definitions, gathered as a single list under one claim": with P11 the list stands whole
 abbrev pub figures : List Figure
-figures = P1 ∷ P2 ∷ P3 ∷ P4 ∷ P5 ∷ P6 ∷ P7 ∷ P8 ∷ P9 ∷ P10 ∷ P11 ∷ []
+figures = P1 ∷ P2 ∷ P3 ∷ P4 ∷ P5 ∷ P6 ∷ P7 ∷ P8 ∷ P9 ∷ P10 ∷ P11 ∷ hard-fork ∷ []
 
 -- "The cycle refusal must name the lowest-numbered event that lies on a cycle"
 abbrev pub LoopedAt : ℕ → Type 0

@@ -8,6 +8,7 @@
 //! | cycles, unreached events | by following rules from an event |
 //! | depths | the longest of all paths from the root, each of which is walked |
 //! | coarse form | every bound moved outward tick by tick to a multiple of q, then as above |
+//! | hard deadlines | of all these executions, those in which every rule's two times differ by least to most |
 //! | schedule | what was written is tested against 01's sentence |
 //! | claim | an execution where some choice of delays is its list and gives its times; the broken event by 01's sentences, in 128 bits |
 //! | unfolding | the report's set R, cut off at K, its events listed by number |
@@ -101,6 +102,54 @@ pub fn greatest(events: usize, rules: &[Rule]) -> Vec<Vec<i64>> {
             return greatest;
         }
     }
+}
+
+/// The same over the times that meet every rule on its own, which are among the executions; none where there are no such times.
+pub fn hard_greatest(events: usize, rules: &[Rule]) -> Option<Vec<Vec<i64>>> {
+    let into: Vec<Vec<usize>> = (0..events).map(|event| rules_into(event, rules)).collect();
+    let mut greatest: Option<Vec<Vec<i64>>> = None;
+    let mut known = vec![None; events];
+    let mut delays: Vec<i64> = rules.iter().map(|rule| rule.least).collect();
+    loop {
+        let times = execution(rules, &into, &delays, &mut known);
+        if rules.iter().all(|rule| binds(rule, &times)) {
+            let rows = greatest.get_or_insert_with(|| vec![vec![i64::MIN; events]; events]);
+            for (row, from) in rows.iter_mut().zip(&times) {
+                for (best, to) in row.iter_mut().zip(&times) {
+                    *best = (*best).max(to - from);
+                }
+            }
+        }
+        if !next_choice(rules, &mut delays) {
+            return greatest;
+        }
+    }
+}
+
+/// Whether the two times of a rule differ by a delay of its interval.
+fn binds(rule: &Rule, times: &[i64]) -> bool {
+    (rule.least..=rule.most).contains(&(times[rule.target] - times[rule.source]))
+}
+
+/// What is wrong with a written schedule under hard deadlines, if anything. `greatest` is the row of s, over the times that meet every rule.
+pub fn hard_schedule_fault(
+    rules: &[Rule],
+    s: usize,
+    greatest: &[i64],
+    times: &[i64],
+    delays: &[i64],
+) -> Option<String> {
+    if times[0] != 0 {
+        return Some("the root isn't at 0".to_string());
+    }
+    if let Some(event) = (0..greatest.len()).find(|&v| times[v] - times[s] != greatest[v]) {
+        return Some(format!("event {} is not as late against s as the deadlines allow", event));
+    }
+    if let Some(rule) = (0..rules.len()).find(|&i| !binds(&rules[i], times)) {
+        return Some(format!("rule {} is not met", rule));
+    }
+    let between = |i: usize| times[rules[i].target] - times[rules[i].source];
+    (0..rules.len()).find(|&i| delays[i] != between(i)).map(|i| format!("the delay of rule {} is another", i))
 }
 
 fn rules_into(event: usize, rules: &[Rule]) -> Vec<usize> {
