@@ -1,5 +1,5 @@
 -- The figures to check by, those that 01 marks P and those of 02, as statements about the definitions. Document 01, section "Figures to
--- check by"; 02, wishes 1 and 3.
+-- check by"; 02, wishes 1, 3 and 4.
 --     one, row, fork, pair, below, looped == the event graphs that the figures speak of
 --     fig1, fig1-unfolded         == the process graph of P11, and its unfolding, written out
 --     fig1-started, fig1-started-unfolded == the same with the start interval [21, 21] on b→b
@@ -11,12 +11,14 @@
 --       coarse-is g q lows highs s t x == rounded outward to steps of q, the delays of g are lows and highs, and the coarse answer is x
 --       limit-met g q lows highs s t a d x y == x is the separation, y the coarse answer by lows and highs, a and d are the depths of s and t, and y is
 --                                    (q − 1) × (a + d) above x
+--       hard-separation-is g s t x == the same as separation-is, over all hard times of g
 --       unfolding-is g K graph    == the graph is the process graph g, unfolded K times
 --       both f h                  == f, and h
---     Holds f                     == what f says, in terms of the crates graphs, executions, rounding and processes
+--     Holds f                     == what f says, in terms of the crates graphs, executions, hardtimes, rounding and processes
 --     b-against-a graph k x       == x is the separation of occurrence k of b from occurrence k of a, in the unfolding of fig 1 that is handed in
 --     P1 … P11                    == the figures
 --     P11-started                 == P11 with the start interval [21, 21] on b→b
+--     hard-fork                   == the figure of request 4
 --     figures                     == all of them, in a single list
 --     LoopedAt v                  == what 02, wish 3, makes of `looped`: refusal 5 names v
 --     LowestOnCycle               == it names 3
@@ -33,6 +35,7 @@ use Rattle.verdicts.specs.Verdict.{Lowest}
 use Rattle.graphs.specs.Limits.{EventGraph}
 use Rattle.executions.specs.Separation.{Separation}
 use Rattle.executions.specs.Schedule.{Schedule}
+use Rattle.hardtimes.specs.HardTimes.{HardSeparation}
 use Rattle.rounding.specs.Rounding.{Rounded, CoarseSeparation}
 use Rattle.processes.specs.declared.Event.{Event}
 use Rattle.processes.specs.Process.{ProcessGraph, processOf, occurrence}
@@ -110,6 +113,7 @@ pub data Figure : Type 0 where
   schedule-is : Graph → ℕ → List ℤ → List ℤ → Figure
   coarse-is : Graph → ℕ → List ℤ → List ℤ → ℕ → ℕ → ℤ → Figure
   limit-met : Graph → ℕ → List ℤ → List ℤ → ℕ → ℕ → ℕ → ℕ → ℤ → ℤ → Figure
+  hard-separation-is : Graph → ℕ → ℕ → ℤ → Figure
   unfolding-is : ProcessGraph → ℕ → Graph → Figure
   both : Figure → Figure → Figure
 
@@ -146,12 +150,20 @@ pub record LimitMet (g : Graph) (q : ℕ) (lows highs : List ℤ) (s t a d : ℕ
   pub depths : DepthsAre g s t a d
   pub limit : y ≡ x +ℤ pos ((q - 1) * (a + d))
 
+-- 02, request 4: "the greatest separation there too"
+pub record HardSeparationIs (g : Graph) (s t : ℕ) (x : ℤ) : Type 0 where
+  pub event-graph : EventGraph 1000000 g
+  pub source-event : s < g .events
+  pub target-event : t < g .events
+  pub separation : HardSeparation g s t x
+
 abbrev pub Holds : Figure → Type 0
 Holds (separation-is g s t x) = SeparationIs g s t x
 Holds (depths-are g s t a d) = DepthsAre g s t a d
 Holds (schedule-is g s times delays) = ScheduleIs g s times delays
 Holds (coarse-is g q lows highs s t x) = CoarseIs g q lows highs s t x
 Holds (limit-met g q lows highs s t a d x y) = LimitMet g q lows highs s t a d x y
+Holds (hard-separation-is g s t x) = HardSeparationIs g s t x
 -- "Unfolding it K times … gives an event graph"
 Holds (unfolding-is g K graph) = Unfolds g K graph
 Holds (both f h) = Holds f × Holds h
@@ -217,9 +229,13 @@ P11-started =
     (both (b-against-a fig1-started-unfolded 0 (pos 21))
     (both (b-against-a fig1-started-unfolded 1 (pos 19)) (b-against-a fig1-started-unfolded 2 (pos 19))))
 
--- "P1 to P11 are proved about the definitions, gathered as a single list under one claim": with P11 01's list stands whole; 02's figure stands beside it
+-- 02, request 4: "The fork of 01 gives 3 for s = 0, t = 3."
+abbrev pub hard-fork : Figure
+hard-fork = hard-separation-is fork 0 3 (pos 3)
+
+-- "P1 to P11 are proved about the definitions, gathered as a single list under one claim": with P11 01's list stands whole; 02's figures stand beside it
 abbrev pub figures : List Figure
-figures = P1 ∷ P2 ∷ P3 ∷ P4 ∷ P5 ∷ P6 ∷ P7 ∷ P8 ∷ P9 ∷ P10 ∷ P11 ∷ P11-started ∷ []
+figures = P1 ∷ P2 ∷ P3 ∷ P4 ∷ P5 ∷ P6 ∷ P7 ∷ P8 ∷ P9 ∷ P10 ∷ P11 ∷ P11-started ∷ hard-fork ∷ []
 
 -- "The cycle refusal must name the lowest-numbered event that lies on a cycle"
 abbrev pub LoopedAt : ℕ → Type 0

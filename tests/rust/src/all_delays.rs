@@ -8,7 +8,9 @@
 //! | cycles, unreached events | by following rules from an event |
 //! | depths | the longest of all paths from the root, each of which is walked |
 //! | coarse form | every bound moved outward tick by tick to a multiple of q, then as above |
+//! | hard deadlines | of all these executions, those in which every rule's two times differ by least to most |
 //! | schedule | what was written is tested against 01's sentence |
+//! | claim | an execution where some choice of delays is its list and gives its times; the broken event by 01's sentences, in 128 bits |
 //! | unfolding | the report's set R, cut off at K, its events listed by number |
 
 #[derive(Clone, Copy, Debug, PartialEq, Eq)]
@@ -100,6 +102,54 @@ pub fn greatest(events: usize, rules: &[Rule]) -> Vec<Vec<i64>> {
             return greatest;
         }
     }
+}
+
+/// The same over the times that meet every rule on its own, which are among the executions; none where there are no such times.
+pub fn hard_greatest(events: usize, rules: &[Rule]) -> Option<Vec<Vec<i64>>> {
+    let into: Vec<Vec<usize>> = (0..events).map(|event| rules_into(event, rules)).collect();
+    let mut greatest: Option<Vec<Vec<i64>>> = None;
+    let mut known = vec![None; events];
+    let mut delays: Vec<i64> = rules.iter().map(|rule| rule.least).collect();
+    loop {
+        let times = execution(rules, &into, &delays, &mut known);
+        if rules.iter().all(|rule| binds(rule, &times)) {
+            let rows = greatest.get_or_insert_with(|| vec![vec![i64::MIN; events]; events]);
+            for (row, from) in rows.iter_mut().zip(&times) {
+                for (best, to) in row.iter_mut().zip(&times) {
+                    *best = (*best).max(to - from);
+                }
+            }
+        }
+        if !next_choice(rules, &mut delays) {
+            return greatest;
+        }
+    }
+}
+
+/// Whether the two times of a rule differ by a delay of its interval.
+fn binds(rule: &Rule, times: &[i64]) -> bool {
+    (rule.least..=rule.most).contains(&(times[rule.target] - times[rule.source]))
+}
+
+/// What is wrong with a written schedule under hard deadlines, if anything. `greatest` is the row of s, over the times that meet every rule.
+pub fn hard_schedule_fault(
+    rules: &[Rule],
+    s: usize,
+    greatest: &[i64],
+    times: &[i64],
+    delays: &[i64],
+) -> Option<String> {
+    if times[0] != 0 {
+        return Some("the root isn't at 0".to_string());
+    }
+    if let Some(event) = (0..greatest.len()).find(|&v| times[v] - times[s] != greatest[v]) {
+        return Some(format!("event {} is not as late against s as the deadlines allow", event));
+    }
+    if let Some(rule) = (0..rules.len()).find(|&i| !binds(&rules[i], times)) {
+        return Some(format!("rule {} is not met", rule));
+    }
+    let between = |i: usize| times[rules[i].target] - times[rules[i].source];
+    (0..rules.len()).find(|&i| delays[i] != between(i)).map(|i| format!("the delay of rule {} is another", i))
 }
 
 fn rules_into(event: usize, rules: &[Rule]) -> Vec<usize> {
@@ -261,6 +311,75 @@ fn greatest_delay(rule: &Rule, times: &[i64]) -> Option<i64> {
         delay -= 1;
     }
     None
+}
+
+// ---- claims
+
+/// What is said of a claim that isn't refused.
+#[derive(Clone, Copy, Debug, PartialEq, Eq)]
+pub enum Verdict {
+    Maximum,
+    Below,
+    Broken(usize),
+    Differs,
+}
+
+/// The refusal of a claim with so many times and delays: the question's, with 22 for wrong lists after 21.
+pub fn claim_refusal(given: &Given, s: usize, t: usize, times: usize, delays: usize) -> Option<(usize, usize)> {
+    let wrong = times != given.events || delays != given.sources.len();
+    match refusal(given, Form::Exact, s, t) {
+        Some((21, place)) => Some((21, place)),
+        _ if wrong => Some((22, 0)),
+        other => other,
+    }
+}
+
+/// Whether the two lists are an execution: every choice of delays is made, and where it is the list, the times that follow are compared.
+fn is_execution(rules: &[Rule], times: &[i64], delays: &[i64]) -> bool {
+    let into: Vec<Vec<usize>> = (0..times.len()).map(|event| rules_into(event, rules)).collect();
+    let mut known = vec![None; times.len()];
+    let mut choice: Vec<i64> = rules.iter().map(|rule| rule.least).collect();
+    loop {
+        if choice == delays {
+            return execution(rules, &into, &choice, &mut known) == times;
+        }
+        if !next_choice(rules, &mut choice) {
+            return false;
+        }
+    }
+}
+
+/// Whether an event breaks one of 01's sentences.
+fn is_broken(event: usize, rules: &[Rule], times: &[i64], delays: &[i64]) -> bool {
+    let into = rules_into(event, rules);
+    let outside = into.iter().any(|&i| delays[i] < rules[i].least || delays[i] > rules[i].most);
+    let arrivals = into.iter().map(|&i| times[rules[i].source] as i128 + delays[i] as i128);
+    let due = if event == 0 { Some(0) } else { arrivals.max() };
+    outside || due != Some(times[event] as i128)
+}
+
+/// The verdict on a claim that isn't refused. `greatest` is the maximum.
+pub fn verdict(
+    rules: &[Rule],
+    s: usize,
+    t: usize,
+    claimed: i64,
+    greatest: i64,
+    times: &[i64],
+    delays: &[i64],
+) -> Verdict {
+    let broken = (0..times.len()).find(|&event| is_broken(event, rules, times, delays));
+    assert_eq!(
+        broken.is_none(),
+        is_execution(rules, times, delays),
+        "no event is broken exactly if it is an execution"
+    );
+    match broken {
+        Some(event) => Verdict::Broken(event),
+        None if times[t] - times[s] != claimed => Verdict::Differs,
+        None if claimed == greatest => Verdict::Maximum,
+        None => Verdict::Below,
+    }
 }
 
 // ---- unfoldings

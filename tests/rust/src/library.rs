@@ -60,6 +60,27 @@ impl Answer {
     }
 }
 
+/// The answer under hard deadlines. `refusal` is 0 where nothing is refused.
+#[derive(Clone, Copy, Debug, PartialEq, Eq)]
+pub struct HardAnswer {
+    pub refusal: usize,
+    pub place: usize,
+    pub least: i64,
+    pub most: i64,
+    pub source_depth: usize,
+    pub target_depth: usize,
+}
+
+impl HardAnswer {
+    pub fn refused(number: usize, place: usize) -> HardAnswer {
+        HardAnswer { refusal: number, place, least: 0, most: 0, source_depth: 0, target_depth: 0 }
+    }
+
+    pub fn found(least: i64, most: i64, source_depth: usize, target_depth: usize) -> HardAnswer {
+        HardAnswer { refusal: 0, place: 0, least, most, source_depth, target_depth }
+    }
+}
+
 /// The answer of the unfolding.
 #[derive(Clone, Copy, Debug, PartialEq, Eq)]
 pub struct Unfolded {
@@ -191,6 +212,48 @@ extern "C" {
         target_depth: *mut usize,
     ) -> usize;
 
+    fn crankforest_hard(
+        n: usize,
+        sources: *const usize,
+        sources_length: usize,
+        targets: *const usize,
+        targets_length: usize,
+        leasts: *const i64,
+        leasts_length: usize,
+        mosts: *const i64,
+        mosts_length: usize,
+        s: usize,
+        t: usize,
+        place: *mut usize,
+        least: *mut i64,
+        most: *mut i64,
+        source_depth: *mut usize,
+        target_depth: *mut usize,
+    ) -> usize;
+
+    fn crankforest_hard_schedule(
+        n: usize,
+        sources: *const usize,
+        sources_length: usize,
+        targets: *const usize,
+        targets_length: usize,
+        leasts: *const i64,
+        leasts_length: usize,
+        mosts: *const i64,
+        mosts_length: usize,
+        s: usize,
+        t: usize,
+        times: *mut i64,
+        times_length: usize,
+        delays: *mut i64,
+        delays_length: usize,
+        place: *mut usize,
+        least: *mut i64,
+        most: *mut i64,
+        source_depth: *mut usize,
+        target_depth: *mut usize,
+    ) -> usize;
+
     fn crankforest_unfold(
         p: usize,
         copies: usize,
@@ -299,6 +362,67 @@ pub fn coarse(n: usize, rules: Rules, s: usize, t: usize, q: usize) -> Answer {
             q,
             &mut answer.place,
             &mut answer.separation,
+            &mut answer.source_depth,
+            &mut answer.target_depth,
+        )
+    };
+    answer
+}
+
+fn unwritten_ends() -> HardAnswer {
+    let held = HELD as i64;
+    HardAnswer { refusal: HELD, place: HELD, least: held, most: held, source_depth: HELD, target_depth: HELD }
+}
+
+/// The least and the greatest t(t) - t(s) over all times that meet every rule on its own, and both depths.
+pub fn hard(n: usize, rules: Rules, s: usize, t: usize) -> HardAnswer {
+    let mut answer = unwritten_ends();
+    answer.refusal = unsafe {
+        crankforest_hard(
+            n,
+            rules.sources.as_ptr(),
+            rules.sources.len(),
+            rules.targets.as_ptr(),
+            rules.targets.len(),
+            rules.leasts.as_ptr(),
+            rules.leasts.len(),
+            rules.mosts.as_ptr(),
+            rules.mosts.len(),
+            s,
+            t,
+            &mut answer.place,
+            &mut answer.least,
+            &mut answer.most,
+            &mut answer.source_depth,
+            &mut answer.target_depth,
+        )
+    };
+    answer
+}
+
+/// The same, and the latest such schedule against s in the two lent lists.
+pub fn hard_schedule(n: usize, rules: Rules, s: usize, t: usize, times: &mut [i64], delays: &mut [i64]) -> HardAnswer {
+    let mut answer = unwritten_ends();
+    answer.refusal = unsafe {
+        crankforest_hard_schedule(
+            n,
+            rules.sources.as_ptr(),
+            rules.sources.len(),
+            rules.targets.as_ptr(),
+            rules.targets.len(),
+            rules.leasts.as_ptr(),
+            rules.leasts.len(),
+            rules.mosts.as_ptr(),
+            rules.mosts.len(),
+            s,
+            t,
+            times.as_mut_ptr(),
+            times.len(),
+            delays.as_mut_ptr(),
+            delays.len(),
+            &mut answer.place,
+            &mut answer.least,
+            &mut answer.most,
             &mut answer.source_depth,
             &mut answer.target_depth,
         )

@@ -1,6 +1,6 @@
 //! 01's figures P1 to P11 and its limits, with the numbers that 01 gives: of the library, and of the plain Rust that it is compared with elsewhere.
 
-use crankforest_tests::library::{self, lent_list, Answer, Graph, Rules, Templates, Unfolded, Written};
+use crankforest_tests::library::{self, lent_list, Answer, Graph, HardAnswer, Rules, Templates, Unfolded, Written};
 use crankforest_tests::plain;
 
 type Schedule = fn(usize, Rules, usize, usize, &mut [i64], &mut [i64]) -> Answer;
@@ -89,6 +89,58 @@ fn p8_p9_p10_coarse() {
         assert_eq!((forms.exact)(2, graph.rules(), 1, 0), Answer::found(3, 1, 0));
         assert_eq!((forms.coarse)(2, graph.rules(), 1, 0, 2), Answer::found(4, 1, 0));
         assert_eq!((forms.coarse)(4, row().rules(), 2, 3, 4), Answer::found(8, 2, 2));
+    }
+}
+
+type Hard = fn(usize, Rules, usize, usize) -> HardAnswer;
+type HardSchedule = fn(usize, Rules, usize, usize, &mut [i64], &mut [i64]) -> HardAnswer;
+
+const BOTH_HARD: [(Hard, HardSchedule); 2] =
+    [(library::hard, library::hard_schedule), (plain::hard, plain::hard_schedule)];
+
+#[test]
+fn the_fork_under_hard_deadlines() {
+    for (hard, hard_schedule) in BOTH_HARD {
+        let (graph, mut times, mut delays) = (fork(), lent_list(6), lent_list(5));
+        assert_eq!(hard(4, graph.rules(), 0, 3), HardAnswer::found(2, 3, 0, 2));
+        assert_eq!(hard_schedule(4, graph.rules(), 0, 3, &mut times, &mut delays), HardAnswer::found(2, 3, 0, 2));
+        assert_eq!(times[..4], [0, 3, 3, 3]);
+        assert_eq!(delays[..4], [3, 3, 0, 0]);
+        assert_eq!((&times[4..], &delays[4..]), (&lent_list(6)[4..], &lent_list(5)[4..]));
+    }
+}
+
+#[test]
+fn no_times_is_no_times() {
+    for (hard, hard_schedule) in BOTH_HARD {
+        let graph = Graph::new(4, &[(0, 1, 5, 5), (0, 2, 1, 1), (1, 3, 0, 0), (2, 3, 3, 3)]);
+        for (s, t) in [(0, 0), (0, 3), (3, 1), (2, 2)] {
+            assert_eq!(hard(4, graph.rules(), s, t), HardAnswer::refused(10, 0));
+            let (mut times, mut delays) = (lent_list(4), lent_list(4));
+            let answer = hard_schedule(4, graph.rules(), s, t, &mut times, &mut delays);
+            assert_eq!(answer, HardAnswer::refused(10, 0));
+            assert_eq!((times, delays), (lent_list(4), lent_list(4)));
+        }
+        // 6 before 10, and 10 where only the rules' order differs
+        let unreached = Graph::new(4, &[(0, 1, 5, 5), (0, 1, 1, 1), (2, 1, 0, 0)]);
+        assert_eq!(hard(4, unreached.rules(), 0, 1), HardAnswer::refused(6, 2));
+        assert_eq!(hard(2, Graph::new(2, &[(0, 1, 5, 5), (0, 1, 1, 1)]).rules(), 0, 1), HardAnswer::refused(10, 0));
+        let mut short = lent_list(3);
+        let answer = hard_schedule(4, graph.rules(), 0, 9, &mut short, &mut lent_list(4));
+        assert_eq!(answer.refusal, 23);
+    }
+}
+
+#[test]
+fn the_longest_chain_under_hard_deadlines() {
+    for (hard, _) in BOTH_HARD {
+        let graph = chain(1_024, -1_000_000, 1_000_000);
+        let far = 1_023_000_000;
+        assert_eq!(hard(1_024, graph.rules(), 0, 1_023), HardAnswer::found(-far, far, 0, 1_023));
+        // one rule across the chain that no times meet: the numbers fall round by round
+        let mut unmeetable = chain(1_024, 1, 1_000_000);
+        unmeetable.add(0, 1_023, 0, 1_022);
+        assert_eq!(hard(1_024, unmeetable.rules(), 0, 1_023), HardAnswer::refused(10, 0));
     }
 }
 
