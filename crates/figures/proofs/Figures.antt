@@ -108,7 +108,7 @@ P11-started-holds = (
 
 -- the cycle 3→4→3; from 0 one comes to every other event, from 1 and 2 to none
 pub lowest-on-cycle-holds : LowestOnCycle
-lowest-on-cycle-holds = cycle-passed looped 3 (4 ∷ []) ((false ∷ true ∷ true ∷ true ∷ true ∷ []) ∷ [] ∷ [] ∷ []) tt
+lowest-on-cycle-holds = cycle-passed looped _ (4 ∷ []) ((false ∷ true ∷ true ∷ true ∷ true ∷ []) ∷ [] ∷ [] ∷ []) tt
 
 pub figures-hold : AllHold figures
 figures-hold = (

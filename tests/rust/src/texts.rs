@@ -191,13 +191,15 @@ pub fn known_separations() -> Vec<(Vec<u8>, usize, usize, i64)> {
         ("1,1,0,0\r\n", 0, 1, REFUSED - 5),
         ("0,2,0,0\r\n", 0, 2, REFUSED - 6),
         ("0,2,0,0\r\n", 0, 3, REFUSED - 4),
-        ("0,64,0,0\r\n", 99, 0, REFUSED - 1),
+        ("0,64,0,0\r\n", 99, 0, REFUSED - 21),
         ("x", 99, 0, REFUSED - 8),
     ];
     let mut known: Vec<(Vec<u8>, usize, usize, i64)> =
         cases.iter().map(|&(rows, s, t, number)| (with_header(rows), s, t, number)).collect();
     known.push((vec![], 0, 0, REFUSED - 8));
     known.push((vec![b'x'; 32_769], 0, 0, REFUSED - 1));
+    known.push((repeated("0,1,0,1\r\n", 1_025), 0, 1, REFUSED - 22));
+    known.push((repeated("0,64,0,1\r\n", 1_025), 0, 1, REFUSED - 21));
     known
 }
 
