@@ -74,7 +74,7 @@ static void hard_schedule(void) {
 }
 
 static void unfold(void) {
-    refusal = crankforest_unfold(31, 33, sources, 124, targets, 124, leasts, 124, mosts, 124, marks, 124, out_sources, RULES, out_targets, RULES,
+    refusal = crankforest_unfold(31, 33, sources, 124, targets, 124, leasts, 124, mosts, 124, marks, 124, leasts, 124, mosts, 124, out_sources, RULES, out_targets, RULES,
                                  out_leasts, RULES, out_mosts, RULES, &place, &events, &rules);
 }
 

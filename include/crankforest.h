@@ -21,7 +21,8 @@ enum crankforest_refusal {
     CRANKFOREST_ACCEPTED = 0,
     CRANKFOREST_BYTES = 1,       /* the text has more than 32,768 bytes; place 0 */
     CRANKFOREST_EVENT = 2,       /* a rule or template names an event that doesn't exist; place: the lowest such rule or template */
-    CRANKFOREST_DELAY = 3,       /* a delay is out of range, or least > most; place: the lowest such rule or template */
+    CRANKFOREST_DELAY = 3,       /* a delay is out of range, or least > most, of a template with mark 1 also in its start interval; place: the lowest such rule
+                                    or template */
     CRANKFOREST_QUESTION = 4,    /* s or t doesn't exist; place: 0 if s, else 1 */
     CRANKFOREST_CYCLE = 5,       /* the graph has a cycle; place: the lowest event that lies on a cycle */
     CRANKFOREST_UNREACHED = 6,   /* an event isn't reachable from the root; place: the lowest such event */
@@ -97,9 +98,11 @@ size_t crankforest_hard_schedule(size_t n, const size_t *sources, size_t sources
                                  size_t *place, int64_t *least, int64_t *most, size_t *source_depth, size_t *target_depth);
 
 /* The event graph of a process graph with p events, unfolded `copies` times: occurrence k of event i has number 1 + k * p + i. Writes (templates x copies)
- * rules, and puts the number of events and of rules where it is told; refused, both are 0 and the lists keep what they held. */
+ * rules, and puts the number of events and of rules where it is told; refused, both are 0 and the lists keep what they held. The start rule of template j, if
+ * its mark is 1, takes from start_leasts[j] to start_mosts[j] ticks; the two lists have an entry for each template, and that of another mark is not read. */
 size_t crankforest_unfold(size_t p, size_t copies, const size_t *sources, size_t sources_length, const size_t *targets, size_t targets_length,
                           const int64_t *leasts, size_t leasts_length, const int64_t *mosts, size_t mosts_length, const size_t *marks, size_t marks_length,
+                          const int64_t *start_leasts, size_t start_leasts_length, const int64_t *start_mosts, size_t start_mosts_length,
                           size_t *out_sources, size_t out_sources_length, size_t *out_targets, size_t out_targets_length,
                           int64_t *out_leasts, size_t out_leasts_length, int64_t *out_mosts, size_t out_mosts_length,
                           size_t *place, size_t *events, size_t *rules);

@@ -174,24 +174,32 @@ static void schedule_of_p2(void)
     check_list("P2's delays", delays, due_delays, 5);
 }
 
-static void unfolding_of_p11(void)
+static void unfolding_of_p11(const char *name, const int64_t *starts, const int64_t *due)
 {
     static const size_t sources[] = {0, 0, 1, 1}, targets[] = {0, 1, 0, 1}, marks[] = {1, 0, 1, 1};
     static const int64_t leasts[] = {4, 1, 1, 5}, mosts[] = {10, 1, 1, 20};
-    static const int64_t due[] = {1, 17, 19};
     struct graph g;
     size_t place = 99, room = MOST_RULES;
-    size_t refusal = crankforest_unfold(2, 3, sources, 4, targets, 4, leasts, 4, mosts, 4, marks, 4, g.sources, room, g.targets, room,
-                                        g.leasts, room, g.mosts, room, &place, &g.n, &g.r);
-    check("P11 unfolds", (int64_t)refusal, CRANKFOREST_ACCEPTED);
+    size_t refusal = crankforest_unfold(2, 3, sources, 4, targets, 4, leasts, 4, mosts, 4, marks, 4, starts, 4, starts, 4,
+                                        g.sources, room, g.targets, room, g.leasts, room, g.mosts, room, &place, &g.n, &g.r);
+    check(name, (int64_t)refusal, CRANKFOREST_ACCEPTED);
     check("P11's place", (int64_t)place, 0);
     check("P11's events", (int64_t)g.n, 7);
     check("P11's rules", (int64_t)g.r, 12);
     for (size_t k = 0; k < 3; k++) {
         struct answer a = exact(&g, 1 + 2 * k, 2 + 2 * k);
         check("P11 is accepted", (int64_t)a.refusal, CRANKFOREST_ACCEPTED);
-        check("P11", a.separation, due[k]);
+        check(name, a.separation, due[k]);
     }
+}
+
+/* 02's figure: the start interval [21, 21] on b to b */
+static void unfoldings_of_figure_1(void)
+{
+    static const int64_t zero[] = {0, 0, 0, 0}, started[] = {0, 0, 0, 21};
+    static const int64_t due[] = {1, 17, 19}, due_started[] = {21, 19, 19};
+    unfolding_of_p11("P11", zero, due);
+    unfolding_of_p11("P11 with a start interval", started, due_started);
 }
 
 /* ---- claims */
@@ -271,17 +279,17 @@ static void refusals_of_the_unfolding(void)
     static const size_t marks[] = {2};
     size_t out_sources[1] = {77}, out_targets[1] = {77}, place = 99, events = 99, rules = 99;
     int64_t out_leasts[1] = {77}, out_mosts[1] = {77};
-    size_t refusal = crankforest_unfold(1, 1, source, 1, target, 1, delay, 1, delay, 1, marks, 1, out_sources, 1, out_targets, 1,
+    size_t refusal = crankforest_unfold(1, 1, source, 1, target, 1, delay, 1, delay, 1, marks, 1, delay, 1, delay, 1, out_sources, 1, out_targets, 1,
                                         out_leasts, 1, out_mosts, 1, &place, &events, &rules);
     check("a mark of 2", (int64_t)refusal, CRANKFOREST_MARK);
     check("a mark of 2, place", (int64_t)place, 0);
     check("a mark of 2, events", (int64_t)events, 0);
     check("a mark of 2, rules", (int64_t)rules, 0);
     check("a mark of 2, a list", (int64_t)out_sources[0], 77);
-    refusal = crankforest_unfold(SIZE_MAX, 2, source, 1, target, 1, delay, 1, delay, 1, marks, 1, out_sources, 1, out_targets, 1,
+    refusal = crankforest_unfold(SIZE_MAX, 2, source, 1, target, 1, delay, 1, delay, 1, marks, 1, delay, 1, delay, 1, out_sources, 1, out_targets, 1,
                                  out_leasts, 1, out_mosts, 1, &place, &events, &rules);
     check("too many process events", (int64_t)refusal, CRANKFOREST_EVENTS);
-    refusal = crankforest_unfold(1, SIZE_MAX, source, 1, target, 1, delay, 1, delay, 1, marks, 1, out_sources, 1, out_targets, 1,
+    refusal = crankforest_unfold(1, SIZE_MAX, source, 1, target, 1, delay, 1, delay, 1, marks, 1, delay, 1, delay, 1, out_sources, 1, out_targets, 1,
                                  out_leasts, 1, out_mosts, 1, &place, &events, &rules);
     check("too many copies", (int64_t)refusal, CRANKFOREST_COPIES);
     check("lists of the unfolding that are kept", (int64_t)out_targets[0] + out_leasts[0] + out_mosts[0], 3 * 77);
@@ -350,7 +358,7 @@ int main(void)
 {
     figures_of_the_analysis();
     schedule_of_p2();
-    unfolding_of_p11();
+    unfoldings_of_figure_1();
     claims();
     refusals_of_the_analysis();
     lists_that_are_wrong();

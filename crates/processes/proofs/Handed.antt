@@ -13,9 +13,8 @@ use mathlib.Core.Path.{_≡_, sym, subst₂}
 use mathlib.Core.List.{List, [], _∷_}
 use Prim.Native.Nat.{ℕ, _+_, _*_, _<_}
 use native.Mathlib.Omega.{arith}
-use lib.IntN.{ℤ, pos}
+use lib.IntN.{ℤ}
 use lib.ListN.{take}
-use Rattle.integers.proofs.Integer.{linear, negation}
 use Rattle.verdicts.specs.Verdict.{Accepted}
 use Rattle.verdicts.proofs.Verdicts.{none-accepted, accepted-none, rest-of, OneOf, verdict-number}
 use Rattle.graphs.specs.Graph.{Graph, graphOf, rules}
@@ -49,7 +48,7 @@ pub record InstanceSized (n : ℕ) (u v : Node) (d D : ℤ) : Type 0 where
   pub to-known : number v < n
   pub delays : InsideDelays d D
 
--- a start rule has delay [0, 0] and comes from the root; the others have the template's delay
+-- a start rule has the template's start interval and comes from the root; the others have the template's delay
 pub instance-sized : {g : ProcessGraph} {K k j : ℕ} {u v : Node} {d D : ℤ} → TemplatesKept g → k < K → j < templates g → Instance g k j u v d D → InstanceSized (1 + g .events * K) u v d D
 instance-sized {g} {K} {k} {j} kept below l (together m) =
     let e = kept .ends j l in
@@ -69,15 +68,11 @@ instance-sized {g} {K} {k} {j} kept below l (onward b m is-next) =
     }
 instance-sized {g} {K} {k} {j} kept below l (start m first) =
     let e = kept .ends j l in
+    let h = kept .starts j l m in
     record {
       from-known = omega arith;
       to-known = occurrence-below g K k (target g j) (e .target-known) below;
-      delays =
-          record {
-            least-within = record { above = omega (linear, negation (pos 1000000)); below = omega linear };
-            most-within = record { above = omega (linear, negation (pos 1000000)); below = omega linear };
-            ordered = omega linear;
-          };
+      delays = record { least-within = h .least-within; most-within = h .most-within; ordered = h .ordered };
     }
 
 module _ {g : ProcessGraph} {K : ℕ} {graph : Graph} (kept : Kept g K) (unfolds : Unfolds g K graph) where

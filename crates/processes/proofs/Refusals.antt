@@ -1,9 +1,9 @@
 -- Laws of the refusals of a process graph.
---     plain g                                            the templates of g, read as the rules of an event graph
+--     plain g, started g                                 the templates of g, read as the rules of an event graph: with their delays, and with their start intervals
 --     TemplatesKept g                                    each template keeps its rules; no limit on counts is asked
 --     Kept g K                                           every rule of 01 for process graphs is kept
 --     process-places                                     each check of the list has one place
---     counts-of, ends-of, delays-of, mark-of             what the absence of each refusal says
+--     counts-of, ends-of, delays-of, start-of, mark-of   what the absence of each refusal says
 --     events-inside, templates-inside, unfolding-inside  where the counts are kept, none of theirs applies
 --     count-21 … count-0                                 refusals 21, 22 and 24, and that none of them applies, each from the facts that shut out the earlier ones
 --     after-counts                                       past them what comes after decides
@@ -25,11 +25,11 @@ use Rattle.verdicts.specs.Verdict.{given, passed, Accepted, FirstThen, FirstOf,
 use Rattle.verdicts.proofs.Verdicts.{OnePlaces, Misses, NoneApplies, at-zero, misses-at-zero, holds-not, passed-all, none-accepted, accepted-none, lowest-unique, at-zero-unique, none-lowest, Alike, more-alike, alike-refl}
 use Rattle.graphs.specs.Graph.{Graph, graphOf}
 use Rattle.graphs.specs.Limits.{EndsKept, DelaysKept}
-use Rattle.graphs.specs.Refusal.{EventsOutside, no-events, many-events}
+use Rattle.graphs.specs.Refusal.{EventsOutside, no-events, many-events, OutsideDelays}
 use Rattle.graphs.proofs.Refusals.{short-at}
 use Rattle.graphs.proofs.Unique.{known-ends, ends-kept, inside-delays, delays-kept}
 use Rattle.processes.specs.Parts.Checks.{ProcessCountsKept, processCountChecks, MarkKept}
-use Rattle.processes.specs.Process.{ProcessGraph, templates, mark}
+use Rattle.processes.specs.Process.{ProcessGraph, templates, least, most, mark, start-least, start-most}
 use Rattle.processes.specs.Unfolding.{
   TemplatesOutside,
   many-templates,
@@ -37,6 +37,8 @@ use Rattle.processes.specs.Unfolding.{
   leasts-differ,
   mosts-differ,
   marks-differ,
+  start-leasts-differ,
+  start-mosts-differ,
   UnfoldingOutside,
   no-copies,
   many-occurrences,
@@ -51,13 +53,17 @@ use Rattle.processes.proofs.Products.{many}
 abbrev pub plain : ProcessGraph → Graph
 plain g = graphOf (g .events) (g .sources) (g .targets) (g .leasts) (g .mosts)
 
+abbrev pub started : ProcessGraph → Graph
+started g = graphOf (g .events) (g .sources) (g .targets) (g .start-leasts) (g .start-mosts)
+
 -- what is asked of each template, however many copies there are to be
 pub record TemplatesKept (g : ProcessGraph) : Type 0 where
   pub ends : (j : ℕ) → j < templates g → EndsKept (plain g) j
   pub delays : (j : ℕ) → j < templates g → DelaysKept 1000000 (plain g) j
+  pub starts : (j : ℕ) → j < templates g → mark g j ≡ 1 → DelaysKept 1000000 (started g) j
   pub marks : (j : ℕ) → j < templates g → MarkKept (g .marks) j
 
--- "p ≥ 1", "K ≥ 1", "1 + p × K ≤ 1,024 and templates × K ≤ 4,096", one entry for each template in each of the five lists
+-- "p ≥ 1", "K ≥ 1", "1 + p × K ≤ 1,024 and templates × K ≤ 4,096", one entry for each template in each of the seven lists
 pub record Kept (g : ProcessGraph) (K : ℕ) : Type 0 where
   pub counts : ProcessCountsKept g K
   pub each : TemplatesKept g
@@ -85,6 +91,8 @@ module _ {g : ProcessGraph} {K : ℕ} where
         leasts-match = stable (length (g .leasts)) (templates g) (λ d. no-22 (leasts-differ d));
         mosts-match = stable (length (g .mosts)) (templates g) (λ d. no-22 (mosts-differ d));
         marks-match = stable (length (g .marks)) (templates g) (λ d. no-22 (marks-differ d));
+        start-leasts-match = stable (length (g .start-leasts)) (templates g) (λ d. no-22 (start-leasts-differ d));
+        start-mosts-match = stable (length (g .start-mosts)) (templates g) (λ d. no-22 (start-mosts-differ d));
       }
 
   -- with one copy at least, there are no more events and templates than occurrences and rules
@@ -98,6 +106,8 @@ module _ {g : ProcessGraph} {K : ℕ} where
   templates-inside kept (leasts-differ d) = d (kept .leasts-match)
   templates-inside kept (mosts-differ d) = d (kept .mosts-match)
   templates-inside kept (marks-differ d) = d (kept .marks-match)
+  templates-inside kept (start-leasts-differ d) = d (kept .start-leasts-match)
+  templates-inside kept (start-mosts-differ d) = d (kept .start-mosts-match)
 
   pub unfolding-inside : ProcessCountsKept g K → UnfoldingOutside g K → ⊥
   unfolding-inside kept (no-copies e) = omega (arith, kept .some-copy)
@@ -109,7 +119,10 @@ module _ {g : ProcessGraph} where
   ends-of j l known = known-ends l (λ u. known (record { is-template = u .is-rule; unknown = u .unknown }))
 
   pub delays-of : (j : ℕ) → j < templates g → (TemplateDelayOutside g j → ⊥) → DelaysKept 1000000 (plain g) j
-  delays-of j l inside = inside-delays l (λ o. inside (record { is-template = o .is-rule; outside = o .outside }))
+  delays-of j l inside = inside-delays l (λ o. inside (record { is-template = o .is-rule; outside = inl (o .outside) }))
+
+  pub start-of : (j : ℕ) → j < templates g → mark g j ≡ 1 → (TemplateDelayOutside g j → ⊥) → DelaysKept 1000000 (started g) j
+  start-of j l m inside = inside-delays l (λ o. inside (record { is-template = o .is-rule; outside = inr (m, o .outside) }))
 
   pub mark-of : (j : ℕ) → j < templates g → (MarkOutside g j → ⊥) → MarkKept (g .marks) j
   mark-of j l inside = by (ℕ-discrete (mark g j) 0) (ℕ-discrete (mark g j) 1)
@@ -132,6 +145,8 @@ pub record ListsKept (g : ProcessGraph) : Type 0 where
   pub leasts-match : length (g .leasts) ≡ templates g
   pub mosts-match : length (g .mosts) ≡ templates g
   pub marks-match : length (g .marks) ≡ templates g
+  pub start-leasts-match : length (g .start-leasts) ≡ templates g
+  pub start-mosts-match : length (g .start-mosts) ≡ templates g
 
 templates-in : {g : ProcessGraph} → ListsKept g → TemplatesOutside g → ⊥
 templates-in kept (many-templates l) = omega (arith, kept .few-templates)
@@ -139,6 +154,8 @@ templates-in kept (targets-differ d) = d (kept .targets-match)
 templates-in kept (leasts-differ d) = d (kept .leasts-match)
 templates-in kept (mosts-differ d) = d (kept .mosts-match)
 templates-in kept (marks-differ d) = d (kept .marks-match)
+templates-in kept (start-leasts-differ d) = d (kept .start-leasts-match)
+templates-in kept (start-mosts-differ d) = d (kept .start-mosts-match)
 
 module _ {g : ProcessGraph} {K : ℕ} where
   pub count-21 : EventsOutside 1023 (g .events) → FirstOf (processCountChecks g K) 21 0
@@ -170,8 +187,17 @@ module _ {g : ProcessGraph} where
   pub ends-miss : ((j : ℕ) → j < templates g → EndsKept (plain g) j) → Misses (Lowest (UnknownTemplateEvent g))
   ends-miss ends p a = ends-kept (ends p (a .holds .is-template)) (record { is-rule = a .holds .is-template; unknown = a .holds .unknown })
 
-  pub delays-miss : ((j : ℕ) → j < templates g → DelaysKept 1000000 (plain g) j) → Misses (Lowest (TemplateDelayOutside g))
-  delays-miss delays p a = delays-kept (delays p (a .holds .is-template)) (record { is-rule = a .holds .is-template; outside = a .holds .outside })
+  pub delays-miss : ((j : ℕ) → j < templates g → DelaysKept 1000000 (plain g) j) →
+      ((j : ℕ) → j < templates g → mark g j ≡ 1 → DelaysKept 1000000 (started g) j) →
+      Misses (Lowest (TemplateDelayOutside g))
+  delays-miss delays starts p a = by (a .holds .outside)
+    where
+      here : p < templates g
+      here = a .holds .is-template
+
+      by : OutsideDelays (least g p) (most g p) ⊎ ((mark g p ≡ 1) × OutsideDelays (start-least g p) (start-most g p)) → ⊥
+      by (inl o) = delays-kept {g = plain g} (delays p here) (record { is-rule = here; outside = o })
+      by (inr (m, o)) = delays-kept {g = started g} (starts p here m) (record { is-rule = here; outside = o })
 
   pub marks-miss : ((j : ℕ) → j < templates g → MarkKept (g .marks) j) → Misses (Lowest (MarkOutside g))
   marks-miss marks p a = ⊎-elim (a .holds .not-zero) (a .holds .not-one) (marks p (a .holds .is-template))
@@ -192,7 +218,7 @@ module _ {g : ProcessGraph} {K : ℕ} {Short : Type 0} where
   process-none room kept =
       let (events, (lists, (copies, _))) = counts-miss (kept .counts) in (
         events,
-        (lists, (copies, (misses-at-zero room, (ends-miss (kept .each .ends), (delays-miss (kept .each .delays), (marks-miss (kept .each .marks), tt)))))),
+        (lists, (copies, (misses-at-zero room, (ends-miss (kept .each .ends), (delays-miss (kept .each .delays) (kept .each .starts), (marks-miss (kept .each .marks), tt)))))),
       )
 
   pub process-kept : NoneApplies (processChecks g K Short) → (Kept g K) × (Short → ⊥)
@@ -203,6 +229,7 @@ module _ {g : ProcessGraph} {K : ℕ} {Short : Type 0} where
           record {
             ends = λ j l. ends-of j l (none-lowest ends j);
             delays = λ j l. delays-of j l (none-lowest delays j);
+            starts = λ j l m. start-of j l m (none-lowest delays j);
             marks = λ j l. mark-of j l (none-lowest marks j);
           };
     },

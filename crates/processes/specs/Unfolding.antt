@@ -1,9 +1,9 @@
--- The promise of the unfolding. Document 01, sections "Process graphs and their unfolding" and "Refusal numbers"; demand 2, last sentence; 02, wish 3.
+-- The promise of the unfolding. Document 01, sections "Process graphs and their unfolding" and "Refusal numbers"; demand 2, last sentence; 02, wishes 1 and 3.
 --     TemplatesOutside g               == refusal 22: the templates are more than their limit, or the template lists differ in length
 --     UnfoldingOutside g K             == refusal 24: K is 0, or the unfolding is beyond its limits
 --     ShortRuleLists …                 == refusal 23 of the lent lists: one has fewer than templates × K places
 --     UnknownTemplateEvent g j         == refusal 2: template j names an event that doesn't exist
---     TemplateDelayOutside g j         == refusal 3: a delay of template j is out of range, or d > D
+--     TemplateDelayOutside g j         == refusal 3: a delay of template j is out of range, or d > D; or so its start interval, where its mark is 1
 --     MarkOutside g j                  == refusal 7: the offset mark of template j is neither 0 nor 1
 --     processChecks g K Short          == the refusals 21, 22, 24, 23, 2, 3, 7, in this order
 --     UnfoldingVerdict g K Short       == the first of them that applies
@@ -23,7 +23,7 @@ use Rattle.graphs.specs.Graph.{Graph, graphOf}
 use Rattle.verdicts.specs.Verdict.{Check, check, FirstOf, AtZero, Lowest}
 use Rattle.graphs.specs.Refusal.{EventsOutside, OutsideDelays}
 use Rattle.processes.specs.declared.Unfolded.{Unfolded}
-use Rattle.processes.specs.Process.{ProcessGraph, templates, source, target, least, most, mark, Node, number, Instance}
+use Rattle.processes.specs.Process.{ProcessGraph, templates, source, target, least, most, mark, start-least, start-most, Node, number, Instance}
 
 -- 02: "rule or template count above 4,096 or unequal lists 22"
 pub data TemplatesOutside (g : ProcessGraph) : Type 0 where
@@ -32,6 +32,8 @@ pub data TemplatesOutside (g : ProcessGraph) : Type 0 where
   leasts-differ : (length (g .leasts) ≡ templates g → ⊥) → TemplatesOutside g
   mosts-differ : (length (g .mosts) ≡ templates g → ⊥) → TemplatesOutside g
   marks-differ : (length (g .marks) ≡ templates g → ⊥) → TemplatesOutside g
+  start-leasts-differ : (length (g .start-leasts) ≡ templates g → ⊥) → TemplatesOutside g
+  start-mosts-differ : (length (g .start-mosts) ≡ templates g → ⊥) → TemplatesOutside g
 
 -- 02: "K = 0 or an unfolding beyond its limits 24"; 01: "1 + p × K ≤ 1,024 and templates × K ≤ 4,096"
 pub data UnfoldingOutside (g : ProcessGraph) (K : ℕ) : Type 0 where
@@ -50,9 +52,10 @@ pub record UnknownTemplateEvent (g : ProcessGraph) (j : ℕ) : Type 0 where
   pub is-template : j < templates g
   pub unknown : (g .events ≤ source g j .0) ⊎ (g .events ≤ target g j .0)
 
+-- 02: "3 covers the start interval too, same template as place", "an entry for another mark is neither read nor checked"
 pub record TemplateDelayOutside (g : ProcessGraph) (j : ℕ) : Type 0 where
   pub is-template : j < templates g
-  pub outside : OutsideDelays (least g j) (most g j)
+  pub outside : OutsideDelays (least g j) (most g j) ⊎ ((mark g j ≡ 1) × OutsideDelays (start-least g j) (start-most g j))
 
 pub record MarkOutside (g : ProcessGraph) (j : ℕ) : Type 0 where
   pub is-template : j < templates g

@@ -1,8 +1,9 @@
-// The checks on a process graph that are this crate's own: the counts and the offset marks.
+// The checks on a process graph that are this crate's own: the counts, the offset marks and the start intervals.
+ghost use mathlib.Core.Path.{_≡_};
 ghost use lib.ListN.{length};
 ghost use Rattle.verdicts.specs.Verdict.{FirstOf, LowestOr};
 ghost use Rattle.processes.specs.Process.{processOf};
-ghost use Rattle.processes.specs.Parts.Checks.{processCountChecks, MarkKept, MarkBroken};
+ghost use Rattle.processes.specs.Parts.Checks.{processCountChecks, MarkKept, MarkBroken, StartKept, StartBroken};
 
 const MAX_EVENTS: usize = 1024;
 
@@ -11,7 +12,7 @@ const MAX_PROCESS_EVENTS: usize = 1023;
 
 const MAX_RULES: usize = 4096;
 
-// Refusal 21 where the process events are none or too many; 22 where the templates are, or the five lists differ in length; 24 where K is 0 or the unfolding
+// Refusal 21 where the process events are none or too many; 22 where the templates are, or the seven lists differ in length; 24 where K is 0 or the unfolding
 // is beyond its limits; else 0. No product is taken before its factors are small.
 pub(crate) fn check_counts(
     p: usize,
@@ -21,8 +22,10 @@ pub(crate) fn check_counts(
     leasts: &[i64],
     mosts: &[i64],
     marks: &[usize],
+    start_leasts: &[i64],
+    start_mosts: &[i64],
 ) -> usize
-    ensures { λ r. ⌜ FirstOf (processCountChecks (processOf p (now (sources .entry)) (now (targets .entry)) (now (leasts .entry)) (now (mosts .entry)) (now (marks .entry))) copies) r 0 ⌝ }
+    ensures { λ r. ⌜ FirstOf (processCountChecks (processOf p (now (sources .entry)) (now (targets .entry)) (now (leasts .entry)) (now (mosts .entry)) (now (marks .entry)) (now («start_leasts» .entry)) (now («start_mosts» .entry))) copies) r 0 ⌝ }
 {
     if p == 0 {
         return 21;
@@ -44,6 +47,12 @@ pub(crate) fn check_counts(
         return 22;
     }
     if marks.len() != templates {
+        return 22;
+    }
+    if start_leasts.len() != templates {
+        return 22;
+    }
+    if start_mosts.len() != templates {
         return 22;
     }
     if copies == 0 {
@@ -69,6 +78,23 @@ pub(crate) fn broken_mark(marks: &[usize]) -> usize
     while j < marks.len() {
         if marks[j] > 1 {
             return j;
+        }
+        j += 1;
+    }
+    j
+}
+
+// The lowest template with mark 1 whose start interval is outside, or the number of templates. An entry of another mark is not read.
+pub(crate) fn outside_start(marks: &[usize], start_leasts: &[i64], start_mosts: &[i64]) -> usize
+    requires { ⌜ (length (now «start_leasts») ≡ length (now marks)) × (length (now «start_mosts») ≡ length (now marks)) ⌝ }
+    ensures { λ r. ⌜ LowestOr (length (now (marks .entry))) (StartKept (now (marks .entry)) (now («start_leasts» .entry)) (now («start_mosts» .entry))) (StartBroken (now (marks .entry)) (now («start_leasts» .entry)) (now («start_mosts» .entry))) r ⌝ }
+{
+    let mut j = 0;
+    while j < marks.len() {
+        if marks[j] == 1 {
+            if refusals::interval_outside(start_leasts[j], start_mosts[j]) {
+                return j;
+            }
         }
         j += 1;
     }

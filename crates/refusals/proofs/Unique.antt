@@ -2,11 +2,13 @@
 --     known-not-unknown, inside-not-outside       an entry has a fault or has none, not both
 --     lowest-or-unique                            a search in which nothing is both good and bad has one answer
 --     unknown-event-unique, outside-delay-unique  so has each of the two searches
+--     interval-outside-unique                     so has the test of one interval
 --     check-counts-unique                         the counts of a graph have one refusal
 --     same-refusal                                a refusal is its number and place
 --     check-input-unique                          a question has one number and place
 -- Assumes nothing.
 use mathlib.Core.Path.{_≡_, refl, sym, ap, _∙_}
+use mathlib.Core.Bool.{Bool, true, false}
 use mathlib.Core.Logic.{⊎-elim}
 use mathlib.Core.List.{List, [], _∷_}
 use Prim.Native.Nat.{ℕ, _<_, min}
@@ -20,7 +22,7 @@ use Rattle.graphs.proofs.Refusals.{count-places, question-places}
 use Rattle.verdicts.specs.Verdict.{LowestOr, FirstOf}
 use Rattle.verdicts.proofs.Verdicts.{one-verdict}
 use Rattle.refusals.specs.declared.Refusal.{Refusal}
-use Rattle.refusals.specs.Faults.{EndsKnown, EndUnknown, BoundedDelays, DelaysInside, DelaysOutside}
+use Rattle.refusals.specs.Faults.{EndsKnown, EndUnknown, BoundedDelays, DelaysInside, DelaysOutside, DelaysChecked}
 
 pub known-not-unknown : {n : ℕ} {ss ts : List ℕ} {i : ℕ} → EndsKnown n ss ts i → EndUnknown n ss ts i → ⊥
 known-not-unknown h u = ⊎-elim (λ l. omega (arith, h .source-known)) (λ l. omega (arith, h .target-known)) u
@@ -53,6 +55,12 @@ module _ (ds Ds : List ℤ) {p q : ℕ} where
       LowestOr (min (length ds) (length Ds)) (DelaysInside ds Ds) (DelaysOutside ds Ds) q →
       p ≡ q
   outside-delay-unique = lowest-or-unique (λ i. inside-not-outside)
+
+pub interval-outside-unique : {b : ℕ} {d D : ℤ} (x y : Bool) → DelaysChecked b d D x → DelaysChecked b d D y → x ≡ y
+interval-outside-unique true true a c = refl
+interval-outside-unique false false a c = refl
+interval-outside-unique true false a c = absurd (inside-not-outside (c .inside refl) (a .outside refl))
+interval-outside-unique false true a c = absurd (inside-not-outside (a .inside refl) (c .outside refl))
 
 pub check-counts-unique : {top most : ℕ} {g : Graph} {a b : ℕ} → FirstOf (countChecks top most g) a 0 → FirstOf (countChecks top most g) b 0 → a ≡ b
 check-counts-unique {top} {most} {g} v w = one-verdict (countChecks top most g) (count-places g) _ _ _ _ v w .0

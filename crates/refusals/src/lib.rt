@@ -2,6 +2,7 @@
 // graphs share the searches.
 //     unknown_event    the lowest entry with an event that doesn't exist, or the end
 //     outside_delay    the lowest entry with a delay out of range, or a least delay above the most, or the end
+//     interval_outside whether one interval has a delay out of range, or a least delay above the most
 //     check_counts     refusal 21 or 22, where a count of a graph is outside its limits
 //     check_input      the first of the refusals 21, 22 and 2 to 4 that applies to a question about two events
 // No caller is trusted: a search looks at lists of different lengths as far as both go. The promises are in specs/.
@@ -92,6 +93,13 @@ pub fn outside_delay(leasts: &[i64], mosts: &[i64]) -> usize
     ensures { λ r. ⌜ LowestOr (min (length (now (leasts .entry))) (length (now (mosts .entry)))) (DelaysInside (now (leasts .entry)) (now (mosts .entry))) (DelaysOutside (now (leasts .entry)) (now (mosts .entry))) r ⌝ }
 {
     beyond_delay(MAX_DELAY, leasts, mosts)
+}
+
+// Whether a delay of one interval is out of range, or its least delay is above its most.
+pub fn interval_outside(least: i64, most: i64) -> bool
+    ensures { λ r. ⌜ DelaysChecked 1000000 least most r ⌝ }
+{
+    delays_beyond(MAX_DELAY, least, most)
 }
 
 // Refusal 21 where the events are none or more than `max_events`; 22 where the rules are more than `max_rules`, or the four lists differ in length; else 0.

@@ -389,6 +389,8 @@ pub fn verdict(
 pub struct GivenProcess {
     pub templates: Given,
     pub marks: Vec<usize>,
+    pub start_leasts: Vec<i64>,
+    pub start_mosts: Vec<i64>,
     pub copies: usize,
     pub lent: [usize; 4],
 }
@@ -405,7 +407,8 @@ impl GivenProcess {
 
     /// 21 for the events, 22 for the templates, 24 for the unfolding, 23 for the lent lists, in this order.
     fn counts_refused(&self) -> Option<usize> {
-        let lists_differ = self.templates.lists_differ() || self.marks.len() != self.templates.sources.len();
+        let lengths = [self.marks.len(), self.start_leasts.len(), self.start_mosts.len()];
+        let lists_differ = self.templates.lists_differ() || lengths.iter().any(|&length| length != self.templates.sources.len());
         if self.templates.events == 0 || self.templates.events > 1_023 {
             Some(21)
         } else if self.templates.sources.len() > 4_096 || lists_differ {
@@ -419,6 +422,15 @@ impl GivenProcess {
         }
     }
 
+    /// The start interval of a template as a rule: one with mark 1 has it, any other has none.
+    fn start_rule(&self, template: usize) -> Option<Rule> {
+        if self.marks[template] != 1 {
+            return None;
+        }
+        let (least, most) = (self.start_leasts[template], self.start_mosts[template]);
+        Some(Rule { source: 0, target: self.templates.targets[template], least, most })
+    }
+
     pub fn refusal(&self) -> Option<(usize, usize)> {
         if let Some(number) = self.counts_refused() {
             return Some((number, 0));
@@ -428,7 +440,8 @@ impl GivenProcess {
         if let Some(place) = templates.iter().position(|rule| rule.source >= events || rule.target >= events) {
             return Some((2, place));
         }
-        if let Some(place) = templates.iter().position(delay_outside) {
+        let wrong = |&place: &usize| delay_outside(&templates[place]) || self.start_rule(place).iter().any(delay_outside);
+        if let Some(place) = (0..templates.len()).find(wrong) {
             return Some((3, place));
         }
         self.marks.iter().position(|&mark| mark != 0 && mark != 1).map(|place| (7, place))
@@ -461,11 +474,11 @@ fn nodes(events: usize, copies: usize) -> Vec<Node> {
 }
 
 /// The members of R that one template gives, as far as their target's k is below K.
-fn members(template: usize, rule: &Rule, mark: usize, copies: usize) -> Vec<Member> {
+fn members(template: usize, rule: &Rule, start: Option<Rule>, mark: usize, copies: usize) -> Vec<Member> {
     let mut members = Vec::new();
-    if mark == 1 {
-        let to = Node::Occurrence(rule.target, 0);
-        members.push(Member { k: 0, template, from: Node::Root, to, delays: (0, 0) });
+    if let Some(first) = start {
+        let to = Node::Occurrence(first.target, 0);
+        members.push(Member { k: 0, template, from: Node::Root, to, delays: (first.least, first.most) });
     }
     let mut k = 0;
     while k + mark < copies {
@@ -483,7 +496,7 @@ pub fn unfolding(process: &GivenProcess) -> (usize, Vec<Rule>) {
     let nodes = nodes(process.templates.events, process.copies);
     let mut set: Vec<Member> = Vec::new();
     for (template, rule) in templates.iter().enumerate() {
-        set.extend(members(template, rule, process.marks[template], process.copies));
+        set.extend(members(template, rule, process.start_rule(template), process.marks[template], process.copies));
     }
     set.sort_by_key(|member| (member.k, member.template));
     let number = |node: Node| nodes.iter().position(|&other| other == node).expect("every node is listed");

@@ -100,11 +100,13 @@ impl Unfolded {
     }
 }
 
-/// The five lists of a process graph's templates.
+/// The seven lists of a process graph's templates.
 #[derive(Clone, Copy, Debug)]
 pub struct Templates<'a> {
     pub rules: Rules<'a>,
     pub marks: &'a [usize],
+    pub start_leasts: &'a [i64],
+    pub start_mosts: &'a [i64],
 }
 
 /// How many places stand behind each lent list that are not lent, so that a write past its end shows.
@@ -265,6 +267,10 @@ extern "C" {
         mosts_length: usize,
         marks: *const usize,
         marks_length: usize,
+        start_leasts: *const i64,
+        start_leasts_length: usize,
+        start_mosts: *const i64,
+        start_mosts_length: usize,
         out_sources: *mut usize,
         out_sources_length: usize,
         out_targets: *mut usize,
@@ -442,6 +448,10 @@ pub fn unfold(p: usize, copies: usize, templates: Templates, out: &mut Written) 
             rules.mosts.len(),
             templates.marks.as_ptr(),
             templates.marks.len(),
+            templates.start_leasts.as_ptr(),
+            templates.start_leasts.len(),
+            templates.start_mosts.as_ptr(),
+            templates.start_mosts.len(),
             out.sources.as_mut_ptr(),
             out.lent[0],
             out.targets.as_mut_ptr(),

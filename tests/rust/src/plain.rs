@@ -320,11 +320,20 @@ pub fn hard_schedule(n: usize, rules: Rules, s: usize, t: usize, times: &mut [i6
 
 // ---- the unfolding
 
+/// Whether template i's delays are outside, or its start interval, which only mark 1 has looked at.
+fn intervals_outside(templates: Templates, i: usize) -> bool {
+    let rules = templates.rules;
+    let start = |bounds: &[i64]| if templates.marks[i] == 1 { bounds[i] } else { 0 };
+    let outside = |least: i64, most: i64| least < -MOST_DELAY || most > MOST_DELAY || least > most;
+    outside(rules.leasts[i], rules.mosts[i]) || outside(start(templates.start_leasts), start(templates.start_mosts))
+}
+
 /// The counts of events and rules, or a refusal.
 fn check_process(p: usize, copies: usize, templates: Templates, places: usize) -> Result<(usize, usize), Refusal> {
     let rules = templates.rules;
     let count = rules.sources.len();
-    let lengths = [rules.targets.len(), rules.leasts.len(), rules.mosts.len(), templates.marks.len()];
+    let starts = [templates.start_leasts.len(), templates.start_mosts.len()];
+    let lengths = [rules.targets.len(), rules.leasts.len(), rules.mosts.len(), templates.marks.len(), starts[0], starts[1]];
     if !(1..MOST_EVENTS).contains(&p) {
         return refuse(21, 0);
     }
@@ -341,7 +350,9 @@ fn check_process(p: usize, copies: usize, templates: Templates, places: usize) -
         return refuse(23, 0);
     }
     check_events(p, rules)?;
-    check_delays(rules)?;
+    if let Some(template) = (0..count).find(|&i| intervals_outside(templates, i)) {
+        return refuse(3, template);
+    }
     match templates.marks.iter().position(|&mark| mark > 1) {
         Some(template) => refuse(7, template),
         None => Ok((events, written)),
@@ -367,8 +378,8 @@ fn write_unfolding(p: usize, copies: usize, templates: Templates, out: &mut Writ
             let starts = templates.marks[i] == 1 && k == 0;
             out.sources[at] = if starts { 0 } else { 1 + (k - templates.marks[i]) * p + rules.sources[i] };
             out.targets[at] = 1 + k * p + rules.targets[i];
-            out.leasts[at] = if starts { 0 } else { rules.leasts[i] };
-            out.mosts[at] = if starts { 0 } else { rules.mosts[i] };
+            out.leasts[at] = if starts { templates.start_leasts[i] } else { rules.leasts[i] };
+            out.mosts[at] = if starts { templates.start_mosts[i] } else { rules.mosts[i] };
             at += 1;
         }
     }

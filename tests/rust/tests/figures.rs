@@ -127,7 +127,7 @@ fn no_times_is_no_times() {
         assert_eq!(hard(2, Graph::new(2, &[(0, 1, 5, 5), (0, 1, 1, 1)]).rules(), 0, 1), HardAnswer::refused(10, 0));
         let mut short = lent_list(3);
         let answer = hard_schedule(4, graph.rules(), 0, 9, &mut short, &mut lent_list(4));
-        assert_eq!(answer.refusal, 1);
+        assert_eq!(answer.refusal, 23);
     }
 }
 
@@ -144,17 +144,51 @@ fn the_longest_chain_under_hard_deadlines() {
     }
 }
 
+/// Figure 1 with these start intervals, one number for least and most.
+fn figure_1<'a>(process: &'a Graph, starts: &'a [i64]) -> Templates<'a> {
+    Templates { rules: process.rules(), marks: &[1, 0, 1, 1], start_leasts: starts, start_mosts: starts }
+}
+
 #[test]
 fn p11_figure_1_of_the_report() {
     for forms in BOTH {
         let process = Graph::new(2, &[(0, 0, 4, 10), (0, 1, 1, 1), (1, 0, 1, 1), (1, 1, 5, 20)]);
-        let templates = Templates { rules: process.rules(), marks: &[1, 0, 1, 1] };
-        for (k, separation) in [1, 17, 19].into_iter().enumerate() {
-            let mut out = Written::lent([12; 4]);
-            assert_eq!((forms.unfold)(2, 3, templates, &mut out), Unfolded::found(7, 12));
-            let answer = (forms.exact)(7, out.as_rules(12), 1 + 2 * k, 2 + 2 * k);
-            assert_eq!((answer.refusal, answer.separation), (0, separation), "occurrence {}", k);
+        for (starts, separations) in [([0, 0, 0, 0], [1, 17, 19]), ([0, 0, 0, 21], [21, 19, 19]), ([0, 99, 0, 21], [21, 19, 19])] {
+            for (k, separation) in separations.into_iter().enumerate() {
+                let mut out = Written::lent([12; 4]);
+                assert_eq!((forms.unfold)(2, 3, figure_1(&process, &starts), &mut out), Unfolded::found(7, 12));
+                let answer = (forms.exact)(7, out.as_rules(12), 1 + 2 * k, 2 + 2 * k);
+                assert_eq!((answer.refusal, answer.separation), (0, separation), "occurrence {}", k);
+            }
         }
+    }
+}
+
+#[test]
+fn start_intervals() {
+    let two = Graph::new(2, &[(0, 1, 1, 2), (1, 0, 1, 2)]);
+    let crossed = Graph::new(2, &[(0, 1, 1, 2), (1, 0, 1, 0)]);
+    for forms in BOTH {
+        let unfold = |graph: &Graph, marks: &[usize], start_leasts: &[i64], start_mosts: &[i64]| {
+            let mut out = Written::lent([2; 4]);
+            let answer = (forms.unfold)(2, 1, Templates { rules: graph.rules(), marks, start_leasts, start_mosts }, &mut out);
+            (answer, [out.leasts[0], out.mosts[0], out.leasts[1], out.mosts[1]])
+        };
+        let held = Written::lent([2; 4]);
+        let kept = [held.leasts[0], held.mosts[0], held.leasts[1], held.mosts[1]];
+        let refused = |number, place| (Unfolded::refused(number, place), kept);
+        let found = |delays| (Unfolded::found(3, 2), delays);
+        assert_eq!(unfold(&two, &[1, 1], &[-5, 3], &[-5, 4]), found([-5, -5, 3, 4]));
+        assert_eq!(unfold(&two, &[1, 0], &[-5, 5_000_000], &[7, 0]), found([-5, 7, 1, 2]));
+        assert_eq!(unfold(&two, &[1, 1], &[0, 1], &[0, 0]), refused(3, 1));
+        assert_eq!(unfold(&two, &[1, 2], &[0, 1], &[0, 0]), refused(7, 1));
+        assert_eq!(unfold(&two, &[1, 1], &[0, 0], &[0, 1_000_001]), refused(3, 1));
+        assert_eq!(unfold(&two, &[1, 1], &[-1_000_000, 0], &[1_000_000, 0]), found([-1_000_000, 1_000_000, 0, 0]));
+        assert_eq!(unfold(&crossed, &[1, 0], &[1, 0], &[0, 0]), refused(3, 0));
+        assert_eq!(unfold(&crossed, &[0, 1], &[1, 0], &[0, 0]), refused(3, 1));
+        assert_eq!(unfold(&crossed, &[2, 1], &[1, 0], &[0, 0]), refused(3, 1));
+        assert_eq!(unfold(&two, &[1, 1], &[0], &[0, 0]), refused(22, 0));
+        assert_eq!(unfold(&two, &[0, 0], &[0, 0], &[0, 0, 0]), refused(22, 0));
     }
 }
 
@@ -162,9 +196,8 @@ fn p11_figure_1_of_the_report() {
 fn figure_1_unfolded_twice_is_this() {
     for forms in BOTH {
         let process = Graph::new(2, &[(0, 0, 4, 10), (0, 1, 1, 1), (1, 0, 1, 1), (1, 1, 5, 20)]);
-        let templates = Templates { rules: process.rules(), marks: &[1, 0, 1, 1] };
         let mut out = Written::lent([9, 8, 10, 8]);
-        assert_eq!((forms.unfold)(2, 2, templates, &mut out), Unfolded::found(5, 8));
+        assert_eq!((forms.unfold)(2, 2, figure_1(&process, &[0; 4]), &mut out), Unfolded::found(5, 8));
         let held = Written::lent([9, 8, 10, 8]);
         assert_eq!(out.sources[..8], [0, 1, 0, 0, 1, 3, 2, 2]);
         assert_eq!(out.targets[..8], [1, 2, 1, 2, 3, 4, 3, 4]);
@@ -284,7 +317,9 @@ fn limits_of_the_unfolding() {
     for forms in BOTH {
         let unfold = |p, copies, graph: &Graph, marks: &[usize], room: usize| {
             let mut out = Written::lent([room; 4]);
-            let answer = (forms.unfold)(p, copies, Templates { rules: graph.rules(), marks }, &mut out);
+            let starts = vec![0; graph.rules().sources.len()];
+            let templates = Templates { rules: graph.rules(), marks, start_leasts: &starts, start_mosts: &starts };
+            let answer = (forms.unfold)(p, copies, templates, &mut out);
             (answer, out == Written::lent([room; 4]))
         };
         let refused = |number, place| (Unfolded::refused(number, place), true);

@@ -63,8 +63,8 @@ fn question(line: &str) -> Option<Question<'_>> {
     let counts = numbers(lists.next()?, unsigned, |x| x)?;
     let lists: Vec<&str> = lists.collect();
     let form = label.split_once(' ')?.0;
-    let expected = if matches!(form, "unfold" | "gap") { 5 } else { 4 };
-    (lists.len() == expected).then_some(Question { form, counts, lists })
+    let expected: &[usize] = if matches!(form, "unfold" | "gap") { &[5, 7] } else { &[4] };
+    expected.contains(&lists.len()).then_some(Question { form, counts, lists })
 }
 
 /// A name and the numbers of a list.
@@ -96,6 +96,12 @@ fn of_graph(q: &Question, rules: Rules) -> String {
 /// The answer to a question of a process graph.
 fn of_process(q: &Question, rules: Rules) -> String {
     let marks = q.events(4);
+    let (start_leasts, start_mosts) = if q.lists.len() == 7 {
+        (q.delays(5), q.delays(6))
+    } else {
+        (vec![0; marks.len()], vec![0; marks.len()])
+    };
+    let templates = Templates { rules, marks: &marks, start_leasts: &start_leasts, start_mosts: &start_mosts };
     let lent = q.count(2);
     let (events, delays) = (vec![99; lent], vec![99; lent]);
     let held = Written {
@@ -106,7 +112,7 @@ fn of_process(q: &Question, rules: Rules) -> String {
         mosts: delays,
     };
     let mut out = held.clone();
-    let unfolded = library::unfold(q.count(0), q.count(1), Templates { rules, marks: &marks }, &mut out);
+    let unfolded = library::unfold(q.count(0), q.count(1), templates, &mut out);
     if q.form == "gap" {
         let answer = library::exact(unfolded.events, out.as_rules(unfolded.rules), q.count(3), q.count(4));
         return answer.separation.to_string();

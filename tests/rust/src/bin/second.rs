@@ -401,6 +401,8 @@ fn templates_of(process: &GivenProcess) -> Templates<'_> {
     Templates {
         rules: Rules { sources: &given.sources, targets: &given.targets, leasts: &given.leasts, mosts: &given.mosts },
         marks: &process.marks,
+        start_leasts: &process.start_leasts,
+        start_mosts: &process.start_mosts,
     }
 }
 
