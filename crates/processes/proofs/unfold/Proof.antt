@@ -25,7 +25,7 @@ answered : (c : tie.After-check-process) →
     (c .check-process .result)
 answered c =
     let f = c .before .fewest .ensures in
-    answered-short (some-short (f .4)) (shortest (f .0) (f .1) (f .2) (f .3)) (c .check-process .ensures .answered)
+    answered-short {g = graph (c .before .before .before .before .before .before .before)} (some-short (f .4)) (shortest (f .0) (f .1) (f .2) (f .3)) (c .check-process .ensures .answered)
 
 -- past the refusals
 module _ (c : tie.Else1) where
@@ -68,7 +68,7 @@ same-length-4 c = search needs
 returns-2 : tie.Need-returns-2
 returns-2 c =
     let b = c .before .before .before .before .before .before .before .before .before .before .before in
-    (answered (b .before .before), lists-written (room b) (b .if1 .left) (c .before .before .before .before .before .before .write-rules .ensures))
+    (answered (b .before .before), lists-written {g = graph (b .before .before .before .before .before .before .before .before .before)} (room b) (b .if1 .left) (c .before .before .before .before .before .before .write-rules .ensures))
 
 pub unfold-spec : {M : Type 1} → statement M
 unfold-spec =

@@ -42,7 +42,7 @@ refused-requires c κs = search needs
 returns : tie.Need-returns
 returns c =
     let some = c .before .if1 .taken in
-    refusal-checked _ 0 (omega arith) (c .refused .ensures) (process-counts _ some (c .before .before .check-counts .ensures))
+    refusal-checked _ 0 (omega arith) (c .refused .ensures) (process-counts {g = graph (c .before .before .before .before .before .before)} _ some (c .before .before .check-counts .ensures))
 
 mul-rules : tie.Need-mul-rules
 mul-rules c = record { fits = omega (arith, counts c .few-rules) }
