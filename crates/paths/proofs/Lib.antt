@@ -1,0 +1,6 @@
+-- The theorems about the pairs of paths.
+pub mod Caps
+pub mod Arrivals
+pub mod PathPairs
+pub mod Carried
+pub mod Turn
