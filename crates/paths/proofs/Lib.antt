@@ -4,3 +4,5 @@ pub mod Arrivals
 pub mod PathPairs
 pub mod Carried
 pub mod Turn
+pub mod Sizes
+pub mod Overfull
