@@ -22,7 +22,7 @@ use Rattle.sets.specs.Pair.{value}
 use Rattle.sets.proofs.Limits.{≤ᴸ-of, ≤ᴸ-trans, ≤ᴸ-antisym, lesser-left, lesser-right, lesser-greatest, lesser-more, ≤ᴸ-refl}
 use Rattle.paths.specs.Cap.{CapOf, at-m, no-m, Caps}
 use Rattle.paths.specs.PathPair.{rulePair}
-use Rattle.paths.proofs.Caps.{m-unique, root-cap, caps-exist}
+use Rattle.paths.proofs.Caps.{m-unique, path-cap, caps-exist}
 
 -- ---- an arrival, capped
 
@@ -56,7 +56,7 @@ module _ {g : Graph} (sound : SoundGraph g) {s : ℕ} where
   pub u-exists : s < g .events → (u : ℕ → ℤ) × U g s u
   u-exists is-event =
       let (cap, caps) = caps-exist sound s in
-      let (m, is-m, same) = root-cap (sound .reachable s is-event) (caps .each 0 (sound .some-event)) in
+      let (m, is-m, same) = path-cap (sound .reachable s is-event) (caps 0) in
       let (u, settled) = values-settle sound m (most g) (λ v a. cappedAt (cap v) a) in (
         u,
         record {
@@ -66,7 +66,7 @@ module _ {g : Graph} (sound : SoundGraph g) {s : ℕ} where
               record {
                 arrival = a .arrival;
                 arrival-greatest = a .greatest;
-                capped = subst (Capped g s v (a .arrival)) (sym (a .finished)) (capped-at (caps .each v l) (a .arrival));
+                capped = subst (Capped g s v (a .arrival)) (sym (a .finished)) (capped-at (caps v) (a .arrival));
               };
         },
       )

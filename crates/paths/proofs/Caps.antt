@@ -1,17 +1,17 @@
 -- Laws of caps: m as a limit, found from the caps of the targets of an event's rules.
---     cap-unique          an event has one cap
---     root-cap            the root has an m, where s is an event of a sound graph
+--     m-unique, cap-unique   an event has one m and one cap
+--     cap-m               a cap that is a number is m
+--     path-cap            an event with a path to s has an m
 --     cap-at-s            the cap of s is 0
 --     cap-ahead           the cap of another event is the least (cap of target − d) over the rules out of it
---     cap-outside         a number that is no event, and not s, has no m
 --     least-out-exists, least-out-unique    such a least limit is there, and it is one
---     caps-exist          so a sound graph has caps, whatever order its events stand in
+--     caps-exist          so a sound graph has caps, whatever order its events stand in; a number that is no event has one too
 -- The argument for cap-ahead is that of m: a path from v to s has a first rule, and goes on from its target. For caps-exist one finds the caps of the
 -- events with a rank of at least n − k, for k = 0, 1, and so on: the targets of an event's rules have higher ranks. Assumes nothing.
 use mathlib.Core.Path.{_≡_, refl, sym, ap, subst, _∙_}
 use mathlib.Core.Logic.{_⊎_, inl, inr}
 use Prim.Native.Nat.{ℕ, zero, suc, _+_, _<_, _≤_}
-use native.Mathlib.Decide.{ℕ-discrete}
+use native.Mathlib.Decide.{ℕ-discrete, decLt}
 use native.Mathlib.Omega.{arith}
 use lib.IntN.{ℤ, pos, negℤ, _+ℤ_}
 use lib.Signed.{_≤ℤ_}
@@ -19,13 +19,13 @@ use Rattle.integers.proofs.Integer.{linear, sum, negation}
 use Rattle.sequences.proofs.Below.{below-next}
 use Rattle.graphs.specs.Graph.{Graph, rules, source, target, least}
 use Rattle.graphs.specs.Path.{Path, stay, step, leastSum, HasCycle}
-use Rattle.graphs.specs.Limits.{EndsKept, SoundGraph}
+use Rattle.graphs.specs.Limits.{SoundGraph}
 use Rattle.graphs.proofs.Paths.{FirstRule, no-first, first, first-rule, acyclic-stays}
 use Rattle.graphs.proofs.Rank.{rank-of}
 use Rattle.executions.specs.Steps.{M}
 use Rattle.sets.specs.Limit.{Limit, number, unlimited, _≤ᴸ_, numbers, under, _+ᴸ_}
 use Rattle.sets.proofs.Limits.{≤ᴸ-refl, ≤ᴸ-of, ≤ᴸ-trans, ≤ᴸ-antisym, <ᴸ-≤ᴸ, Compared, at-most, above, compared, number-≤, number-same, not-number}
-use Rattle.paths.specs.Cap.{CapOf, at-m, no-m, Caps, LeastOut}
+use Rattle.paths.specs.Cap.{CapOf, at-m, no-m, LeastOut}
 
 -- ---- one cap
 
@@ -44,9 +44,9 @@ cap-unique (no-m none) (no-m none′) = refl
 pub cap-m : {g : Graph} {s v : ℕ} {x : ℤ} → CapOf g s v (number x) → M g s v x
 cap-m (at-m x h) = h
 
-pub root-cap : {g : Graph} {s v : ℕ} {c : Limit} → Path g v s → CapOf g s v c → (x : ℤ) × M g s v x × (c ≡ number x)
-root-cap p (at-m x h) = (x, h, refl)
-root-cap p (no-m none) = absurd (none p)
+pub path-cap : {g : Graph} {s v : ℕ} {c : Limit} → Path g v s → CapOf g s v c → (x : ℤ) × M g s v x × (c ≡ number x)
+path-cap p (at-m x h) = (x, h, refl)
+path-cap p (no-m none) = absurd (none p)
 
 -- ---- one event's turn
 
@@ -55,13 +55,6 @@ cap-at-s {g} {s} acyclic e = subst (λ (x : ℕ). CapOf g s x (number (pos 0))) 
   where
     empty : M g s s (pos 0)
     empty = record { reached = (stay, refl); bound = λ p. omega (linear, negation (leastSum p), acyclic-stays acyclic p .1) }
-
-pub cap-outside : {g : Graph} {s v : ℕ} → ((i : ℕ) → i < rules g → EndsKept g i) → g .events ≤ v → (v ≡ s → ⊥) → CapOf g s v unlimited
-cap-outside {g} {s} {v} ends outside other = no-m (λ p. by p (first-rule p))
-  where
-    by : (p : Path g v s) → FirstRule g v s p → ⊥
-    by p (no-first same none zero-sum) = other same
-    by p (first i l out q one-more its-sum) = let known = ends i l .source-known in omega (arith, known, out)
 
 -- m of a rule's target, less its least delay, for each path that begins with the rule; and a path that reaches it
 module _ {g : Graph} {s : ℕ} where
@@ -189,7 +182,17 @@ module _ {g : Graph} (sound : SoundGraph g) (s : ℕ) where
         next-cap (capFrom k) v (ℕ-discrete v s)
         (λ i h out. cap-from k (target g i) (sound .ends i h .target-known) (omega (arith, higher i h, ap rank out)))
 
-  pub caps-exist : (cap : ℕ → Limit) × Caps g s cap
+    -- no rule leaves a number that is no event
+    cap-past : (k v : ℕ) → g .events ≤ v → CapOf g s v (capFrom (suc k) v)
+    unfolding capFrom
+    cap-past k v past =
+        next-cap (capFrom k) v (ℕ-discrete v s) (λ i h out. absurd (let known = sound .ends i h .source-known in let no : ⊥ = omega (arith, known, out) in no))
+
+    cap-at : (v : ℕ) → Dec (v < g .events) → CapOf g s v (capFrom (suc (g .events)) v)
+    cap-at v (yes l) = cap-from (suc (g .events)) v l (omega arith)
+    cap-at v (no n) = cap-past (g .events) v (omega arith)
+
+  pub caps-exist : (cap : ℕ → Limit) × ((v : ℕ) → CapOf g s v (cap v))
   caps-exist =
       let (rank, higher, below) = rank-of g (sound .ends) (sound .acyclic) in
-      (capFrom rank higher below (g .events), record { each = λ v l. cap-from rank higher below (g .events) v l (omega arith) })
+      (capFrom rank higher below (suc (g .events)), λ v. cap-at rank higher below v (decLt v (g .events)))

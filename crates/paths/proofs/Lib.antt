@@ -4,5 +4,6 @@ pub mod Arrivals
 pub mod PathPairs
 pub mod Carried
 pub mod Turn
+pub mod Closed
 pub mod Sizes
 pub mod Overfull
