@@ -1,0 +1,2 @@
+-- The theorems about a process graph unfolded in full.
+pub mod Unfolded
