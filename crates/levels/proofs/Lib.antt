@@ -1,2 +1,4 @@
 -- The theorems about a process graph unfolded in full.
 pub mod Unfolded
+pub mod Folds
+pub mod Sound
