@@ -2,3 +2,4 @@
 pub mod Unfolded
 pub mod Folds
 pub mod Sound
+pub mod Outgoing
