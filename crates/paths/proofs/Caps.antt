@@ -25,7 +25,8 @@ use Rattle.graphs.proofs.Rank.{rank-of}
 use Rattle.executions.specs.Steps.{M}
 use Rattle.sets.specs.Limit.{Limit, number, unlimited, _≤ᴸ_, numbers, under, _+ᴸ_}
 use Rattle.sets.proofs.Limits.{≤ᴸ-refl, ≤ᴸ-of, ≤ᴸ-trans, ≤ᴸ-antisym, <ᴸ-≤ᴸ, Compared, at-most, above, compared, number-≤, number-same, not-number}
-use Rattle.paths.specs.Cap.{CapOf, at-m, no-m, LeastOut}
+use Rattle.paths.specs.Cap.{CapOf, at-m, no-m}
+use Rattle.paths.specs.Parts.Turn.{LeastOut}
 
 -- ---- one cap
 

@@ -1,8 +1,7 @@
 -- Every event has its fully pruned set: there are finitely many paths.
---     Numbered T           every l of T is a number
 --     candidates           the candidates of an event's turn as a list
 --     candidates-turn      they are those that a turn asks
---     Fully g cap t full   full v closes the pairs of the paths from v to t, for every v
+--     turn-numbered        a turn keeps numbers as l
 --     sets-exist           a sound graph has such sets
 -- As caps are found: those of the events with a rank of at least n − k, for k = 0, 1, and so on. Assumes nothing.
 use mathlib.Core.Path.{_≡_, refl, sym, ap, subst, _∙_}
@@ -37,10 +36,9 @@ use Rattle.sets.specs.Family.{Covers, Closes}
 use Rattle.sets.proofs.Covers.{prunes-closes}
 use Rattle.sets.proofs.Insertion.{prune}
 use Rattle.paths.specs.PathPair.{rulePair, PathPairs}
-use Rattle.paths.proofs.Turn.{Turn, turn-covers}
-
-pub record Numbered (T : List Pair) : Type 0 where
-  pub number-of : (q : Pair) → q ∈ T → (a : ℤ) × (q .l ≡ number a)
+use Rattle.paths.specs.Parts.Turn.{Turn}
+use Rattle.paths.specs.Parts.Solved.{Numbered, Full, Fully}
+use Rattle.paths.proofs.Turn.{turn-covers}
 
 -- ---- the candidates of a turn
 
@@ -133,13 +131,6 @@ turn-numbered {g} {cap} {t} {v} sets numbered turn = record { number-of = λ r m
         (most g i +ℤ a, ap (λ (x : Pair). x .l) e ∙ ap (λ (x : Limit). number (most g i) +ᴸ x) f)
 
 -- ---- all sets
-
-pub record Full (g : Graph) (cap : ℕ → Limit) (t v : ℕ) (T : List Pair) : Type 0 where
-  pub closes : Closes T (PathPairs g cap t v)
-  pub numbered : Numbered T
-
-pub record Fully (g : Graph) (cap : ℕ → Limit) (t : ℕ) (full : ℕ → List Pair) : Type 0 where
-  pub each : (v : ℕ) → Full g cap t v (full v)
 
 module _ {g : Graph} (sound : SoundGraph g) (cap : ℕ → Limit) (t : ℕ) where
   next-set : (sets : ℕ → List Pair) (v : ℕ) → ((i : ℕ) → i < rules g → source g i ≡ v → Full g cap t (target g i) (sets (target g i)))

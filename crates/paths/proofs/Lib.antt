@@ -7,3 +7,4 @@ pub mod Turn
 pub mod Closed
 pub mod Sizes
 pub mod Overfull
+pub mod Solved

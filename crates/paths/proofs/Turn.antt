@@ -1,5 +1,4 @@
 -- One event's turn: from sets that stand for the paths of the targets of its rules to one that stands for its own paths.
---     Turn g cap t v sets C     C holds every pair of a rule out of v composed with a pair of the set of the rule's target, the unit where v is t, and no other
 --     turn-covers               where the sets cover the pairs of the targets' paths, C covers those of v's paths
 --     no-path-closes            where no path leads from v to t, the empty set closes the pairs of v's paths
 -- The argument: a path from v to t is empty, or a rule out of v and a path from its target. Assumes nothing.
@@ -19,12 +18,8 @@ use Rattle.sets.specs.Family.{Covers, Closes}
 use Rattle.sets.proofs.Limits.{≤ᴸ-refl, ≤ᴸ-of, ≤ᴸ-trans, number-≤, +ᴸ-more, lesser-more}
 use Rattle.sets.proofs.Pairs.{dominates-refl, compose-more}
 use Rattle.paths.specs.PathPair.{rulePair, pathPair, PathPairs}
+use Rattle.paths.specs.Parts.Turn.{Turn}
 use Rattle.paths.proofs.PathPairs.{mostSum, pathPair-number, FirstPair, no-rule, one-rule, first-pair}
-
-pub record Turn (g : Graph) (cap : ℕ → Limit) (t v : ℕ) (sets : ℕ → List Pair) (C : List Pair) : Type 0 where
-  pub here : v ≡ t → unit ∈ C
-  pub on : (i : ℕ) → i < rules g → source g i ≡ v → (q : Pair) → q ∈ sets i → compose (rulePair g cap i) q ∈ C
-  pub only : (r : Pair) → r ∈ C → ((v ≡ t) × (r ≡ unit)) ⊎ ((i : ℕ) × (q : Pair) × (i < rules g) × (source g i ≡ v) × (q ∈ sets i) × (r ≡ compose (rulePair g cap i) q))
 
 -- how near the family comes to a pair r
 abbrev Near : (g : Graph) (cap : ℕ → Limit) (t v : ℕ) → Pair → ℤ → Type 0
