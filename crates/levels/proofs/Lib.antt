@@ -3,3 +3,4 @@ pub mod Unfolded
 pub mod Folds
 pub mod Sound
 pub mod Outgoing
+pub mod Turns

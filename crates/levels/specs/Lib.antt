@@ -2,3 +2,4 @@
 pub mod Started
 pub mod Full
 pub mod Long
+pub mod Parts

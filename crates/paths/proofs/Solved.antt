@@ -1,7 +1,7 @@
 -- All caps and all fully pruned sets of a graph, against s and towards t: what a sweep is to find, event by event.
 --     solved-exists              a sound graph has them
 --     cap-found, set-found       what has the meaning of a cap or of a fully pruned set is it
---     turn-found                 what pruning leaves of the candidates of an event's turn is its set
+--     turn-found                 the candidates of an event's turn cover the pairs of its paths, and what pruning leaves of them is its set
 --     no-path-cap, no-path-set   an event with no path to s has an unlimited cap; one with none to t has the empty set
 --     outside-path               no path leads from a number that is no event to another number
 --     solved-separation          the value of the root's set at the root's cap is the separation
@@ -54,11 +54,11 @@ module _ {g : Graph} {s t : ℕ} {cap : ℕ → Limit} {full : ℕ → List Pair
   pub set-found : {v : ℕ} {T : List Pair} → Closes T (PathPairs g cap t v) → T ≡ full v
   set-found {v} h = closes-unique h (solved .sets .each v .closes)
 
-  pub turn-found : {v : ℕ} {C T : List Pair} → Turn g cap t v (λ i. full (target g i)) C → Covers C (PathPairs g cap t v) × (Prunes C T → T ≡ full v)
+  pub turn-found : {v : ℕ} {C : List Pair} → Turn g cap t v (λ i. full (target g i)) C → Covers C (PathPairs g cap t v) × ((T : List Pair) → Prunes C T → T ≡ full v)
   turn-found {v} turn =
       let covers =
       turn-covers (λ i. full (target g i)) (λ i h out. solved .sets .each (target g i) .closes .covers) (λ i h out. solved .sets .each (target g i) .numbered .number-of) turn in
-      (covers, λ h. set-found (prunes-closes covers h))
+      (covers, λ T h. set-found (prunes-closes covers h))
 
   pub no-path-cap : {v : ℕ} → (Path g v s → ⊥) → cap v ≡ unlimited
   no-path-cap never = sym (cap-found (no-m never))
