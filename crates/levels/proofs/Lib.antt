@@ -4,3 +4,4 @@ pub mod Folds
 pub mod Sound
 pub mod Outgoing
 pub mod Turns
+pub mod Sweeps
