@@ -5,3 +5,4 @@ pub mod Sound
 pub mod Outgoing
 pub mod Turns
 pub mod Sweeps
+pub mod Sizes

@@ -6,12 +6,14 @@
 --     MissingOccurrence g K …       == refusal 4: the occurrence of s, or that of t, doesn't exist
 --     OnCycle g v                   == refusal 5: process event v lies on a cycle of mark-0 templates
 --     Untargeted g v                == refusal 6: no template targets process event v
---     longChecks g K …              == the refusals in their order
+--     TooManyPairs g K …            == refusal 12: some event of the graph unfolded in full has a set of more than 64 pairs
+--     inputChecks g K …             == the refusals of what is handed in, in their order
+--     longChecks g K …              == with 12 after them
 --     LongAnswered g K …            == the answer: the verdict's number and place, and the separation in the graph unfolded in full; 0 where it is refused
 -- Refusals 2 and 7 are those of the unfolding. Process event u at occurrence k is event 1 + k × p + u of the graph. Assumes nothing.
 use mathlib.Core.Path.{_≡_}
 use mathlib.Core.Logic.{_⊎_}
-use mathlib.Core.List.{List, [], _∷_}
+use mathlib.Core.List.{List, [], _∷_, _++_}
 use Prim.Native.Nat.{ℕ, _<_, _≤_}
 use lib.IntN.{ℤ, pos}
 use lib.ListN.{length}
@@ -71,10 +73,9 @@ pub record Untargeted (g : StartedGraph) (v : ℕ) : Type 0 where
   pub is-event : v < g .graph .events
   pub no-template : (j : ℕ) → j < templates (g .graph) → target (g .graph) j .0 ≡ v → ⊥
 
--- "21, 22, 24 at these limits, then 2, 3, 7, 4, 5 …, 6 …, then 12, place 0, exactly if for some occurrence, or the root, the fully pruned set over all paths
--- to the target has more than 64 pairs"
-abbrev pub longChecks : StartedGraph → ℕ → Event → ℕ → Event → ℕ → List Check
-longChecks g K s ks t kt =
+-- "21, 22, 24 at these limits, then 2, 3, 7, 4, 5 (lowest process event on a mark-0 cycle), 6 (the lowest process event that no template targets)"
+abbrev pub inputChecks : StartedGraph → ℕ → Event → ℕ → Event → ℕ → List Check
+inputChecks g K s ks t kt =
     check 21 (AtZero (CountOutside g))
     ∷ check 22 (AtZero (TemplatesOutside g))
     ∷ check 24 (AtZero (CopiesOutside K))
@@ -84,8 +85,14 @@ longChecks g K s ks t kt =
     ∷ check 4 (MissingOccurrence g K s ks t kt)
     ∷ check 5 (Lowest (OnCycle g))
     ∷ check 6 (Lowest (Untargeted g))
-    ∷ check 12 (AtZero (Overfull (fullUnfolding g K) (occurrence (g .graph) ks s .0) (occurrence (g .graph) kt t .0) 64))
     ∷ []
+
+-- "then 12, place 0, exactly if for some occurrence, or the root, the fully pruned set over all paths to the target has more than 64 pairs"
+abbrev pub TooManyPairs : StartedGraph → ℕ → Event → ℕ → Event → ℕ → Type 0
+TooManyPairs g K s ks t kt = Overfull (fullUnfolding g K) (occurrence (g .graph) ks s .0) (occurrence (g .graph) kt t .0) 64
+
+abbrev pub longChecks : StartedGraph → ℕ → Event → ℕ → Event → ℕ → List Check
+longChecks g K s ks t kt = inputChecks g K s ks t kt ++ (check 12 (AtZero (TooManyPairs g K s ks t kt)) ∷ [])
 
 -- "The number must equal demand 2's maximum over the graph unfolded in full"
 pub record LongAnswered (g : StartedGraph) (K : ℕ) (s : Event) (ks : ℕ) (t : Event) (kt : ℕ) (refusal place : ℕ) (separation : ℤ) : Type 0 where

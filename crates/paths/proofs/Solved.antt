@@ -2,6 +2,7 @@
 --     solved-exists              a sound graph has them
 --     cap-found, set-found       what has the meaning of a cap or of a fully pruned set is it
 --     turn-found                 the candidates of an event's turn cover the pairs of its paths, and what pruning leaves of them is its set
+--     pruning-found              a pruning of what covers the pairs of v's paths holds the set of v, or says that it has more pairs than there is room
 --     no-path-cap, no-path-set   an event with no path to s has an unlimited cap; one with none to t has the empty set
 --     outside-path               no path leads from a number that is no event to another number
 --     solved-separation          the value of the root's set at the root's cap is the separation
@@ -9,6 +10,7 @@
 --     solved-fits                where no event's set has more, none is
 -- Assumes nothing.
 use mathlib.Core.Path.{_≡_, refl, sym, subst}
+use mathlib.Core.Bool.{true, false}
 use mathlib.Core.List.{List, []}
 use Prim.Native.Nat.{ℕ, _<_, _≤_}
 use native.Mathlib.Omega.{arith}
@@ -23,7 +25,11 @@ use Rattle.sets.specs.Limit.{Limit, number, unlimited}
 use Rattle.sets.specs.Pair.{Pair}
 use Rattle.sets.specs.Set.{SetValue, Prunes}
 use Rattle.sets.specs.Family.{Covers, Closes}
+use Rattle.sets.specs.Held.{pairsOf}
+use Rattle.sets.specs.Promise.{PrunedTo}
+use Rattle.sets.specs.declared.Pruning.{Pruning}
 use Rattle.sets.proofs.Covers.{closes-unique, prunes-closes}
+use Rattle.sets.proofs.Promises.{pruning-closes, pruning-more}
 use Rattle.paths.specs.Cap.{CapOf, no-m, Caps}
 use Rattle.paths.specs.PathPair.{PathPairs, Overfull}
 use Rattle.paths.proofs.Caps.{cap-unique, cap-m, caps-exist}
@@ -59,6 +65,16 @@ module _ {g : Graph} {s t : ℕ} {cap : ℕ → Limit} {full : ℕ → List Pair
       let covers =
       turn-covers (λ i. full (target g i)) (λ i h out. solved .sets .each (target g i) .closes .covers) (λ i h out. solved .sets .each (target g i) .numbered .number-of) turn in
       (covers, λ T h. set-found (prunes-closes covers h))
+
+  pub pruning-found : {v room : ℕ} {C : List Pair} (r : Pruning) → Covers C (PathPairs g cap t v) → PrunedTo C room r
+      → (r .more ≡ false → (pairsOf (r .set) ≡ full v) × (length (full v) ≤ room)) × (r .more ≡ true → room < length (full v))
+  pruning-found {room = room} r covers h = (
+    λ e.
+        let (closes, short) = pruning-closes r covers h e in
+        let same = set-found closes in
+        (same, subst (λ (T : List Pair). length T ≤ room) same short),
+    λ e. let (T, closes, over) = pruning-more r covers h e in subst (λ (T : List Pair). room < length T) (set-found closes) over,
+  )
 
   pub no-path-cap : {v : ℕ} → (Path g v s → ⊥) → cap v ≡ unlimited
   no-path-cap never = sym (cap-found (no-m never))
