@@ -6,3 +6,4 @@ pub mod Outgoing
 pub mod Turns
 pub mod Sweeps
 pub mod Sizes
+pub mod Verdicts
