@@ -6,7 +6,7 @@
 --     cycle-folds           so a cycle of the unfolded graph is a cycle of mark-0 templates
 -- The argument is that of the crate processes, proofs/Cycles.antt, whatever the start intervals are. Assumes nothing.
 use mathlib.Core.Path.{_≡_, refl, sym, ap, subst, _∙_}
-use Prim.Native.Nat.{ℕ, suc, _+_, _*_, _<_, _≤_}
+use Prim.Native.Nat.{ℕ, suc, _<_, _≤_}
 use native.Mathlib.Omega.{arith}
 use lib.IntN.{ℤ}
 use Rattle.graphs.specs.Graph as rule

@@ -7,3 +7,5 @@ pub mod Turns
 pub mod Sweeps
 pub mod Sizes
 pub mod Verdicts
+pub mod Answers
+pub mod Loops

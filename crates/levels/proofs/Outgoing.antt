@@ -16,7 +16,7 @@ use Rattle.graphs.specs.Graph as rule
 use Rattle.graphs.specs.Graph.{Graph, rules}
 use Rattle.processes.specs.declared.Event.{Event}
 use Rattle.processes.specs.Parts.Checks.{MarkKept}
-use Rattle.processes.specs.Process.{templates, source, target, least, most, mark, occurrence, Node, root, at, number}
+use Rattle.processes.specs.Process.{templates, source, target, least, most, mark, occurrence, Node, at, number}
 use Rattle.processes.proofs.Numbers.{Place}
 use Rattle.processes.proofs.Occurrences.{event-same, numbers-apart, never-root}
 use Rattle.levels.specs.Started.{StartedGraph, startLeast, startMost, Instance, together, onward, start, RuleAt, Unfolds}

@@ -7,7 +7,7 @@
 --     step-addable        the pair of a template and a pair of a set ahead can be composed
 --     root-summable       m(root) and a pair of the root's set can be summed
 -- A path has at most one rule for each occurrence, and a delay lies within 1,000,000. Assumes nothing.
-use mathlib.Core.Path.{_≡_, refl, subst}
+use mathlib.Core.Path.{_≡_, subst}
 use mathlib.Core.List.{List}
 use Prim.Native.Nat.{ℕ, suc, _+_, _*_, _<_, _≤_}
 use native.Mathlib.Nat.{mul-le-mul-left, mul-le-mul-right}
@@ -16,7 +16,7 @@ use lib.IntN.{ℤ}
 use Rattle.integers.specs.Within.{Within}
 use Rattle.integers.proofs.Word.{within-wider}
 use Rattle.graphs.specs.Graph.{Graph}
-use Rattle.sets.specs.Limit.{Limit, number, unlimited}
+use Rattle.sets.specs.Limit.{Limit, number}
 use Rattle.sets.specs.Pair.{Pair, pair}
 use Rattle.sets.specs.Set.{_∈_}
 use Rattle.sets.specs.Promise.{Near, Addable, Summable, sum-within}

@@ -6,7 +6,7 @@
 -- Why every event is reachable. A template targets its process event, so every event but the root has a rule into it; ranks fall going back along rules, and
 -- so one arrives at the root. Assumes nothing.
 use mathlib.Core.Path.{_≡_, refl, sym, ap, subst, _∙_}
-use Prim.Native.Nat.{ℕ, zero, suc, _+_, _*_, _<_, _≤_}
+use Prim.Native.Nat.{ℕ, zero, suc, _+_, _*_, _<_}
 use native.Mathlib.Decide.{ℕ-discrete}
 use native.Mathlib.Nat.{not-suc-le-zero, le-refl}
 use native.Mathlib.Omega.{arith}
@@ -18,15 +18,13 @@ use Rattle.graphs.specs.Limits.{EndsKept, DelaysKept, SoundGraph}
 use Rattle.graphs.proofs.Paths.{along}
 use Rattle.graphs.proofs.Rank.{rank-of}
 use Rattle.refusals.specs.Faults.{InsideDelays}
-use Rattle.processes.specs.declared.Event.{Event}
 use Rattle.processes.specs.Process.{templates, source, target, mark, occurrence, Node, number}
 use Rattle.processes.specs.Ways.{MarkZeroCycle}
 use Rattle.processes.proofs.Numbers.{place-below}
 use Rattle.processes.proofs.Occurrences.{OneOccurrence, occurrence-below, occurrence-found}
 use Rattle.processes.proofs.Refusals.{TemplatesKept}
 use Rattle.levels.specs.Started.{StartedGraph, startLeast, startMost, Instance, together, onward, start, RuleAt, Unfolds}
-use Rattle.levels.specs.Full.{fullUnfolding}
-use Rattle.levels.proofs.Unfolded.{full-unfolds, rule-at-place}
+use Rattle.levels.proofs.Unfolded.{rule-at-place}
 use Rattle.levels.proofs.Folds.{place-of, instance-enters, cycle-folds}
 
 pub record Fit (g : StartedGraph) : Type 0 where

@@ -15,7 +15,7 @@ use mathlib.Core.List.{List, []}
 use Prim.Native.Nat.{ℕ, zero, suc, _+_, _*_, _<_, _≤_}
 use native.Mathlib.Decide.{ℕ-discrete, decLt}
 use native.Mathlib.Omega.{arith}
-use lib.IntN.{ℤ, negℤ}
+use lib.IntN.{negℤ}
 use lib.ListN.{length}
 use Rattle.graphs.specs.Graph.{Graph}
 use Rattle.sets.specs.Limit.{Limit, number, unlimited, _≤ᴸ_, _+ᴸ_}
@@ -26,12 +26,11 @@ use Rattle.paths.specs.PathPair.{PathPairs, Overfull}
 use Rattle.paths.specs.Parts.Solved.{Solved}
 use Rattle.paths.proofs.Solved.{solved-fits, solved-overfull}
 use Rattle.processes.specs.declared.Event.{Event}
-use Rattle.processes.specs.Parts.Checks.{MarkKept}
 use Rattle.processes.specs.Process.{templates, source, target, least, most, mark, occurrence}
 use Rattle.processes.proofs.Occurrences.{OneOccurrence, occurrence-below, occurrence-found}
 use Rattle.levels.specs.Started.{StartedGraph, startLeast, startMost, Unfolds}
 use Rattle.levels.specs.Parts.Turns.{ahead, LeastTemplate, TemplateTurn}
-use Rattle.levels.specs.Parts.Sweep.{byMark, Ranked, Whole, From, LevelHolds, Fits, Swept}
+use Rattle.levels.specs.Parts.Sweep.{byMark, Ranked, Whole, LevelHolds, Fits, Swept}
 use Rattle.levels.proofs.Sound.{Fit, unfolded-sound}
 use Rattle.levels.proofs.Turns.{level-cap, level-set, occurrence-cap, occurrence-set, root-cap, root-set}
 
@@ -75,7 +74,6 @@ ahead-is f g k j (suc m) e (inr one) at-here at-above =
 
 module _ {g : StartedGraph} {K : ℕ} {graph : Graph} (fit : Fit g) (unfolds : Unfolds g K graph)
     {s t : ℕ} {cap : ℕ → Limit} {full : ℕ → List Pair} (solved : Solved graph s t cap full) where
-
   -- ---- before the first level
 
   module _ (ks kt : ℕ) (su tu : Event) (hs : su .0 < g .graph .events) (ht : tu .0 < g .graph .events)

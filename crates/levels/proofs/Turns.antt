@@ -7,7 +7,7 @@
 --     occurrence-cap, occurrence-set, root-cap, root-set   the same of an occurrence, and of the root with its start intervals
 -- The rules out of a node are those of its templates (Outgoing.antt). A template whose occurrence ahead would be K or more gives no rule; what stands ahead
 -- of it has no m and an empty set, so it adds nothing. Assumes nothing.
-use mathlib.Core.Path.{_≡_, refl, sym, ap, subst, _∙_}
+use mathlib.Core.Path.{_≡_, sym, ap, subst, _∙_}
 use mathlib.Core.Logic.{_⊎_, inl, inr}
 use mathlib.Core.List.{List, [], List·Memᴰ·not-nil}
 use Prim.Native.Nat.{ℕ, _<_, _≤_}

@@ -8,7 +8,6 @@
 -- Assumes nothing.
 use mathlib.Core.Path.{_≡_, refl, sym, ap, subst, _∙_}
 use mathlib.Core.Logic.{_⊎_, inl, inr}
-use mathlib.Core.List.{List}
 use Prim.Native.Nat.{ℕ, zero, suc, _+_, _*_, _/_, _%_, _<_}
 use native.Mathlib.Nat.{not-suc-le-zero, le-of-suc-le-suc, mod-lt, div-add-mod'}
 use native.Mathlib.Omega.{arith}
@@ -16,7 +15,7 @@ use lib.IntN.{ℤ, pos}
 use lib.ListN.{length, getD}
 use lib.Seq.{ext-getD}
 use Rattle.graphs.specs.Graph as rule
-use Rattle.graphs.specs.Graph.{Graph, rules}
+use Rattle.graphs.specs.Graph.{Graph}
 use Rattle.processes.specs.Parts.Checks.{MarkKept}
 use Rattle.processes.specs.Process.{templates, source, target, least, most, mark, occurrence, Node, root, at, number}
 use Rattle.processes.proofs.Numbers.{places-apart, place-below, Place, place-found}

@@ -10,18 +10,18 @@
 --     long-overfull                     12 is the verdict where some set has more than 64 pairs
 --     long-answered                     and where none has, the separation is the answer
 -- Assumes nothing.
-use mathlib.Core.Path.{_≡_, refl, sym, ap, subst, _∙_}
+use mathlib.Core.Path.{_≡_, refl, sym, subst, _∙_}
 use mathlib.Core.Logic.{_⊎_, inl, inr, ⊎-elim}
-use mathlib.Core.List.{List, [], _∷_}
-use Prim.Native.Nat.{ℕ, zero, suc, _+_, _<_, _≤_}
+use mathlib.Core.List.{[]}
+use Prim.Native.Nat.{ℕ, zero, suc, _<_, _≤_}
 use native.Mathlib.Decide.{ℕ-discrete, decLt}
 use native.Mathlib.Omega.{arith}
 use lib.IntN.{ℤ, pos}
 use lib.ListN.{length}
 use Rattle.sequences.proofs.Below.{below-next}
 use Rattle.sequences.proofs.Lengths.{stable}
-use Rattle.verdicts.specs.Verdict.{check, given, passed, Accepted, accepted, FirstOf, AtZero, Lowest}
-use Rattle.verdicts.proofs.Verdicts.{OnePlace, OnePlaces, Misses, NoneApplies, lowest-unique, at-zero, at-zero-unique, one-verdict, given-after, none-accepted, front-given, none-lowest}
+use Rattle.verdicts.specs.Verdict.{check, passed, Accepted, accepted, FirstOf, AtZero, Lowest}
+use Rattle.verdicts.proofs.Verdicts.{OnePlace, OnePlaces, Misses, NoneApplies, lowest-unique, at-zero, at-zero-unique, one-verdict, given-after, none-lowest}
 use Rattle.graphs.specs.Graph.{Graph, graphOf}
 use Rattle.graphs.specs.Limits.{EndsKept, DelaysKept}
 use Rattle.graphs.specs.Refusal.{OutsideDelays}
@@ -30,11 +30,10 @@ use Rattle.refusals.specs.Faults.{InsideDelays}
 use Rattle.executions.specs.Separation.{Separation}
 use Rattle.executions.proofs.Unique.{separation-unique}
 use Rattle.processes.specs.declared.Event.{Event}
-use Rattle.processes.specs.Parts.Checks.{MarkKept}
-use Rattle.processes.specs.Process.{templates, source, target, least, most, mark, occurrence}
+use Rattle.processes.specs.Process.{templates, target, mark, occurrence}
 use Rattle.processes.specs.Ways.{MarkZeroWay, empty, along, templatesOn, MarkZeroCycle}
-use Rattle.processes.specs.Unfolding.{UnknownTemplateEvent, TemplateDelayOutside, MarkOutside}
-use Rattle.processes.proofs.Refusals.{plain, TemplatesKept, ends-of, delays-of, mark-of}
+use Rattle.processes.specs.Unfolding.{UnknownTemplateEvent, MarkOutside}
+use Rattle.processes.proofs.Refusals.{plain, ends-of, delays-of, mark-of}
 use Rattle.processes.proofs.Refusals as templates-laws
 use Rattle.levels.specs.Started.{StartedGraph, startLeast, startMost}
 use Rattle.levels.specs.Full.{fullUnfolding}

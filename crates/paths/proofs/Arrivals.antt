@@ -11,13 +11,13 @@ use mathlib.Core.Logic.{_⊎_, inl, inr}
 use Prim.Native.Nat.{ℕ, _<_}
 use lib.IntN.{ℤ, _+ℤ_}
 use lib.Signed.{_≤ℤ_, leZ}
-use Rattle.integers.proofs.Integer.{linear, sum}
+use Rattle.integers.proofs.Integer.{linear}
 use Rattle.graphs.specs.Graph.{Graph, rules, source, target, most}
 use Rattle.graphs.specs.Limits.{SoundGraph}
 use Rattle.graphs.proofs.Greatest.{root-has-no-rule}
 use Rattle.executions.specs.Steps.{M, Lesser, Capped, with-m, without-m, UOf, U}
 use Rattle.executions.proofs.Rounds.{values-settle}
-use Rattle.sets.specs.Limit.{Limit, number, unlimited, _≤ᴸ_, numbers, under, lesser}
+use Rattle.sets.specs.Limit.{Limit, number, unlimited, _≤ᴸ_, numbers, lesser}
 use Rattle.sets.specs.Pair.{value}
 use Rattle.sets.proofs.Limits.{≤ᴸ-of, ≤ᴸ-trans, ≤ᴸ-antisym, lesser-left, lesser-right, lesser-greatest, lesser-more, ≤ᴸ-refl}
 use Rattle.paths.specs.Cap.{CapOf, at-m, no-m, Caps}

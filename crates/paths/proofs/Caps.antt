@@ -8,7 +8,7 @@
 --     caps-exist          so a sound graph has caps, whatever order its events stand in; a number that is no event has one too
 -- The argument for cap-ahead is that of m: a path from v to s has a first rule, and goes on from its target. For caps-exist one finds the caps of the
 -- events with a rank of at least n − k, for k = 0, 1, and so on: the targets of an event's rules have higher ranks. Assumes nothing.
-use mathlib.Core.Path.{_≡_, refl, sym, ap, subst, _∙_}
+use mathlib.Core.Path.{_≡_, refl, sym, ap, subst}
 use mathlib.Core.Logic.{_⊎_, inl, inr}
 use Prim.Native.Nat.{ℕ, zero, suc, _+_, _<_, _≤_}
 use native.Mathlib.Decide.{ℕ-discrete, decLt}
@@ -24,7 +24,7 @@ use Rattle.graphs.proofs.Paths.{FirstRule, no-first, first, first-rule, acyclic
 use Rattle.graphs.proofs.Rank.{rank-of}
 use Rattle.executions.specs.Steps.{M}
 use Rattle.sets.specs.Limit.{Limit, number, unlimited, _≤ᴸ_, numbers, under, _+ᴸ_}
-use Rattle.sets.proofs.Limits.{≤ᴸ-refl, ≤ᴸ-of, ≤ᴸ-trans, ≤ᴸ-antisym, <ᴸ-≤ᴸ, Compared, at-most, above, compared, number-≤, number-same, not-number}
+use Rattle.sets.proofs.Limits.{≤ᴸ-refl, ≤ᴸ-trans, ≤ᴸ-antisym, <ᴸ-≤ᴸ, Compared, at-most, above, compared, number-≤, number-same, not-number}
 use Rattle.paths.specs.Cap.{CapOf, at-m, no-m}
 use Rattle.paths.specs.Parts.Turn.{LeastOut}
 
@@ -167,7 +167,7 @@ module _ {g : Graph} (sound : SoundGraph g) (s : ℕ) where
       → CapOf g s v (nextCap cap v d)
   unfolding nextCap
   next-cap cap v (yes e) targets = cap-at-s (sound .acyclic) e
-  next-cap cap v (no n) targets = 
+  next-cap cap v (no n) targets =
       let (c, least-of) = least-out-exists g v (λ i. cap (target g i) +ᴸ number (negℤ (least g i))) in
       cap-ahead cap n targets c least-of
 

@@ -60,9 +60,9 @@ module _ {g : Graph} (sound : SoundGraph g) {s : ℕ} {cap : ℕ → Limit} (cap
       let (p, carries) = before i h to in (
         along p i h refl to,
         ap (λ (q : Pair). value q (number (u 0))) (pathPair-along cap p i h refl to)
-        ∙ value-compose (pathPair cap p) (rulePair g cap i) (number (u 0))
-        ∙ ap (value (rulePair g cap i)) carries
-        ∙ arrives,
+            ∙ value-compose (pathPair cap p) (rulePair g cap i) (number (u 0))
+            ∙ ap (value (rulePair g cap i)) carries
+            ∙ arrives,
       )
 
   module _ (rank : ℕ → ℕ) (higher : (i : ℕ) → i < rules g → rank (source g i) < rank (target g i)) where

@@ -4,8 +4,8 @@
 --     turn-numbered        a turn keeps numbers as l
 --     sets-exist           a sound graph has such sets
 -- As caps are found: those of the events with a rank of at least n − k, for k = 0, 1, and so on. Assumes nothing.
-use mathlib.Core.Path.{_≡_, refl, sym, ap, subst, _∙_}
-use mathlib.Core.Logic.{_⊎_, inl, inr, ⊎-elim}
+use mathlib.Core.Path.{_≡_, refl, sym, ap, _∙_}
+use mathlib.Core.Logic.{_⊎_, inl, inr}
 use mathlib.Core.List.{
   List,
   [],
@@ -32,10 +32,9 @@ use Rattle.sequences.proofs.Below.{below-next}
 use Rattle.sets.specs.Limit.{Limit, number, _+ᴸ_}
 use Rattle.sets.specs.Pair.{Pair, compose, unit}
 use Rattle.sets.specs.Set.{_∈_, Prunes}
-use Rattle.sets.specs.Family.{Covers, Closes}
 use Rattle.sets.proofs.Covers.{prunes-closes}
 use Rattle.sets.proofs.Insertion.{prune}
-use Rattle.paths.specs.PathPair.{rulePair, PathPairs}
+use Rattle.paths.specs.PathPair.{rulePair}
 use Rattle.paths.specs.Parts.Turn.{Turn}
 use Rattle.paths.specs.Parts.Solved.{Numbered, Full, Fully}
 use Rattle.paths.proofs.Turn.{turn-covers}

@@ -6,14 +6,13 @@ use mathlib.Core.Path.{_≡_, refl, sym, ap, _∙_}
 use mathlib.Core.List.{List}
 use Prim.Native.Nat.{ℕ, _<_, _≤_}
 use native.Mathlib.Omega.{arith}
-use lib.IntN.{ℤ}
 use lib.ListN.{length}
-use Rattle.graphs.specs.Graph.{Graph, rules, source, target, most}
+use Rattle.graphs.specs.Graph.{Graph, target, most}
 use Rattle.graphs.specs.Path.{Path, stay, step}
 use Rattle.graphs.specs.Limits.{SoundGraph}
 use Rattle.sets.specs.Limit.{Limit, number}
 use Rattle.sets.specs.Pair.{Pair, pair, compose}
-use Rattle.sets.specs.Family.{Covers, Closes}
+use Rattle.sets.specs.Family.{Closes}
 use Rattle.sets.proofs.Covers.{closes-length}
 use Rattle.sets.proofs.Operations.{cover-more}
 use Rattle.paths.specs.Cap.{Caps}

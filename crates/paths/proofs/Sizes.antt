@@ -13,22 +13,21 @@ use mathlib.Core.List.{List}
 use Prim.Native.Nat.{ℕ, suc, _+_, _*_, _<_, _≤_}
 use native.Mathlib.Nat.{mul-suc, mul-le-mul-left}
 use native.Mathlib.Omega.{arith}
-use lib.IntN.{ℤ, pos, _+ℤ_}
-use lib.Signed.{_≤ℤ_}
+use lib.IntN.{ℤ, pos}
 use Rattle.integers.specs.Within.{Within}
-use Rattle.integers.proofs.Integer.{linear, sum, negation}
+use Rattle.integers.proofs.Integer.{linear, negation}
 use Rattle.integers.proofs.Word.{within-sum, within-wider, within-negation}
-use Rattle.graphs.specs.Graph.{Graph, rules, source, target, most}
-use Rattle.graphs.specs.Path.{Path, stay, step, steps, leastSum}
+use Rattle.graphs.specs.Graph.{Graph, rules, target, most}
+use Rattle.graphs.specs.Path.{Path, stay, step, steps}
 use Rattle.graphs.specs.Limits.{DelaysKept, SoundGraph}
 use Rattle.graphs.proofs.Paths.{leastSum-within}
 use Rattle.graphs.proofs.Rank.{short-path}
 use Rattle.executions.specs.Steps.{M}
-use Rattle.sets.specs.Limit.{Limit, number, unlimited, _≤ᴸ_, numbers, under, _+ᴸ_, lesser}
+use Rattle.sets.specs.Limit.{Limit, number, unlimited, numbers, under, _+ᴸ_, lesser}
 use Rattle.sets.specs.Pair.{Pair, pair, Dominates}
 use Rattle.sets.specs.Set.{_∈_, Dominated}
 use Rattle.sets.specs.Family.{Family, Covers, Closes}
-use Rattle.sets.proofs.Limits.{≤ᴸ-of, ≤ᴸ-trans, ≤ᴸ-antisym, number-≤, number-same, not-number, Compared, at-most, above, compared, <ᴸ-≤ᴸ, lesser-left, lesser-right, lesser-greatest, ≤ᴸ-refl}
+use Rattle.sets.proofs.Limits.{≤ᴸ-of, ≤ᴸ-trans, ≤ᴸ-antisym, number-same, not-number, Compared, at-most, above, compared, <ᴸ-≤ᴸ, lesser-left, lesser-right, lesser-greatest, ≤ᴸ-refl}
 use Rattle.sets.proofs.Pairs.{pair-same, dominates-trans}
 use Rattle.sets.proofs.Sets.{pruned-apart}
 use Rattle.paths.specs.Cap.{CapOf, at-m, no-m, Caps}

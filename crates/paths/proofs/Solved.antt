@@ -9,7 +9,7 @@
 --     solved-overfull            an event whose set has more pairs than there is room is overfull
 --     solved-fits                where no event's set has more, none is
 -- Assumes nothing.
-use mathlib.Core.Path.{_≡_, refl, sym, subst}
+use mathlib.Core.Path.{_≡_, sym, subst}
 use mathlib.Core.Bool.{true, false}
 use mathlib.Core.List.{List, []}
 use Prim.Native.Nat.{ℕ, _<_, _≤_}
