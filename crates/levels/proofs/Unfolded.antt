@@ -20,7 +20,7 @@ use Rattle.processes.specs.Parts.Checks.{MarkKept}
 use Rattle.processes.specs.Process.{templates, source, target, least, most, mark, occurrence, Node, root, at, number}
 use Rattle.processes.proofs.Numbers.{places-apart, place-below, Place, place-found}
 use Rattle.levels.specs.Started.{StartedGraph, startLeast, startMost, Instance, together, onward, start, RuleAt, Unfolds}
-use Rattle.levels.specs.Full.{listed, sourceAt, delayAt, fullUnfolding}
+use Rattle.levels.specs.Full.{listed, sourceAt, delayAt, sourceOf, targetOf, leastOf, mostOf, fullUnfolding}
 
 -- ---- lists
 
@@ -54,11 +54,27 @@ not-zero m (inr e) = e
 
 module _ (g : StartedGraph) (j : ℕ) where
   entry-at : (m k : ℕ) → mark (g .graph) j ≡ m → (m ≡ 0) ⊎ (m ≡ 1)
-      → Entry g k j (sourceAt (g .graph .events) m k (source (g .graph) j .0)) (occurrence (g .graph) k (target (g .graph) j) .0) (delayAt m k (startLeast g j) (least (g .graph) j)) (delayAt m k (startMost g j) (most (g .graph) j))
+      → Entry g k j
+      (sourceAt (g .graph .events) m k (source (g .graph) j .0))
+      (occurrence (g .graph) k (target (g .graph) j) .0)
+      (delayAt m k (startLeast g j) (least (g .graph) j))
+      (delayAt m k (startMost g j) (most (g .graph) j))
   entry-at zero k e which =
-      record { from = at (occurrence (g .graph) k (source (g .graph) j)); to = at (occurrence (g .graph) k (target (g .graph) j)); from-number = refl; to-number = refl; instance = together e }
+      record {
+        from = at (occurrence (g .graph) k (source (g .graph) j));
+        to = at (occurrence (g .graph) k (target (g .graph) j));
+        from-number = refl;
+        to-number = refl;
+        instance = together e;
+      }
   entry-at (suc m) zero e which =
-      record { from = root; to = at (occurrence (g .graph) 0 (target (g .graph) j)); from-number = refl; to-number = refl; instance = start (e ∙ not-zero m which) refl }
+      record {
+        from = root;
+        to = at (occurrence (g .graph) 0 (target (g .graph) j));
+        from-number = refl;
+        to-number = refl;
+        instance = start (e ∙ not-zero m which) refl;
+      }
   entry-at (suc m) (suc k) e which =
       record {
         from = at (occurrence (g .graph) k (source (g .graph) j));
@@ -74,20 +90,18 @@ module _ (g : StartedGraph) (K : ℕ) (marks : (j : ℕ) → j < templates (g .g
       → RuleAt g (i / templates (g .graph)) (i % templates (g .graph)) (fullUnfolding g K) i
   rule-found i l below =
       let T : ℕ = templates (g .graph) in
-      let e : Entry g (i / T) (i % T) (sourceAt (g .graph .events) (mark (g .graph) (i % T)) (i / T) (source (g .graph) (i % T) .0)) (occurrence (g .graph) (i / T) (target (g .graph) (i % T)) .0) (delayAt (mark (g .graph) (i % T)) (i / T) (startLeast g (i % T)) (least (g .graph) (i % T))) (delayAt (mark (g .graph) (i % T)) (i / T) (startMost g (i % T)) (most (g .graph) (i % T))) =
+      let e : Entry g (i / T) (i % T) (sourceOf g i) (targetOf g i) (leastOf g i) (mostOf g i) =
       entry-at g (i % T) (mark (g .graph) (i % T)) (i / T) refl (marks (i % T) below) in
-      let least-at : rule.least (fullUnfolding g K) i ≡ delayAt (mark (g .graph) (i % T)) (i / T) (startLeast g (i % T)) (least (g .graph) (i % T)) =
-      listed-at (T * K) i (λ i. delayAt (mark (g .graph) (i % T)) (i / T) (startLeast g (i % T)) (least (g .graph) (i % T))) (pos 0) l in
-      let most-at : rule.most (fullUnfolding g K) i ≡ delayAt (mark (g .graph) (i % T)) (i / T) (startMost g (i % T)) (most (g .graph) (i % T)) =
-      listed-at (T * K) i (λ i. delayAt (mark (g .graph) (i % T)) (i / T) (startMost g (i % T)) (most (g .graph) (i % T))) (pos 0) l in
+      let least-at : rule.least (fullUnfolding g K) i ≡ leastOf g i = listed-at (T * K) i (leastOf g) (pos 0) l in
+      let most-at : rule.most (fullUnfolding g K) i ≡ mostOf g i = listed-at (T * K) i (mostOf g) (pos 0) l in
       record {
         from = e .from;
         to = e .to;
-        from-number = listed-at (T * K) i (λ i. sourceAt (g .graph .events) (mark (g .graph) (i % T)) (i / T) (source (g .graph) (i % T) .0)) 0 l ∙ e .from-number;
-        to-number = listed-at (T * K) i (λ i. occurrence (g .graph) (i / T) (target (g .graph) (i % T)) .0) 0 l ∙ e .to-number;
+        from-number = listed-at (T * K) i (sourceOf g) 0 l ∙ e .from-number;
+        to-number = listed-at (T * K) i (targetOf g) 0 l ∙ e .to-number;
         instance =
             subst (λ (d : ℤ). Instance g (i / T) (i % T) (e .from) (e .to) d (rule.most (fullUnfolding g K) i)) (sym least-at)
-            (subst (Instance g (i / T) (i % T) (e .from) (e .to) (delayAt (mark (g .graph) (i % T)) (i / T) (startLeast g (i % T)) (least (g .graph) (i % T)))) (sym most-at) (e .instance));
+            (subst (Instance g (i / T) (i % T) (e .from) (e .to) (leastOf g i)) (sym most-at) (e .instance));
       }
 
   pub full-unfolds : Unfolds g K (fullUnfolding g K)
@@ -95,10 +109,10 @@ module _ (g : StartedGraph) (K : ℕ) (marks : (j : ℕ) → j < templates (g .g
       let T : ℕ = templates (g .graph) in
       record {
         event-count = refl;
-        sources-count = listed-length (T * K) (λ i. sourceAt (g .graph .events) (mark (g .graph) (i % T)) (i / T) (source (g .graph) (i % T) .0));
-        targets-count = listed-length (T * K) (λ i. occurrence (g .graph) (i / T) (target (g .graph) (i % T)) .0);
-        leasts-count = listed-length (T * K) (λ i. delayAt (mark (g .graph) (i % T)) (i / T) (startLeast g (i % T)) (least (g .graph) (i % T)));
-        mosts-count = listed-length (T * K) (λ i. delayAt (mark (g .graph) (i % T)) (i / T) (startMost g (i % T)) (most (g .graph) (i % T)));
+        sources-count = listed-length (T * K) (sourceOf g);
+        targets-count = listed-length (T * K) (targetOf g);
+        leasts-count = listed-length (T * K) (leastOf g);
+        mosts-count = listed-length (T * K) (mostOf g);
         each = λ k j below l.
             let (row, place) = row-found T k j l in
             let i : ℕ = k * T + j in
@@ -153,9 +167,17 @@ module _ {g : StartedGraph} {K : ℕ} {graph graph′ : Graph} (x : Unfolds g K 
 
   pub unfolding-unique : graph ≡ graph′
   unfolding-unique =
-      let sources : graph .sources ≡ graph′ .sources = ext-getD 0 (graph .sources) (graph′ .sources) (x .sources-count ∙ sym (y .sources-count)) (λ i l. entries-same i (omega (arith, x .sources-count)) .source-same) in
-      let targets : graph .targets ≡ graph′ .targets = ext-getD 0 (graph .targets) (graph′ .targets) (x .targets-count ∙ sym (y .targets-count)) (λ i l. entries-same i (omega (arith, x .targets-count)) .target-same) in
-      let leasts : graph .leasts ≡ graph′ .leasts = ext-getD (pos 0) (graph .leasts) (graph′ .leasts) (x .leasts-count ∙ sym (y .leasts-count)) (λ i l. entries-same i (omega (arith, x .leasts-count)) .least-same) in
-      let mosts : graph .mosts ≡ graph′ .mosts = ext-getD (pos 0) (graph .mosts) (graph′ .mosts) (x .mosts-count ∙ sym (y .mosts-count)) (λ i l. entries-same i (omega (arith, x .mosts-count)) .most-same) in
+      let sources : graph .sources ≡ graph′ .sources =
+      ext-getD 0 (graph .sources) (graph′ .sources) (x .sources-count ∙ sym (y .sources-count))
+      (λ i l. entries-same i (omega (arith, x .sources-count)) .source-same) in
+      let targets : graph .targets ≡ graph′ .targets =
+      ext-getD 0 (graph .targets) (graph′ .targets) (x .targets-count ∙ sym (y .targets-count))
+      (λ i l. entries-same i (omega (arith, x .targets-count)) .target-same) in
+      let leasts : graph .leasts ≡ graph′ .leasts =
+      ext-getD (pos 0) (graph .leasts) (graph′ .leasts) (x .leasts-count ∙ sym (y .leasts-count))
+      (λ i l. entries-same i (omega (arith, x .leasts-count)) .least-same) in
+      let mosts : graph .mosts ≡ graph′ .mosts =
+      ext-getD (pos 0) (graph .mosts) (graph′ .mosts) (x .mosts-count ∙ sym (y .mosts-count))
+      (λ i l. entries-same i (omega (arith, x .mosts-count)) .most-same) in
       let events : graph .events ≡ graph′ .events = x .event-count ∙ sym (y .event-count) in
       λ i. record { events = events i; sources = sources i; targets = targets i; leasts = leasts i; mosts = mosts i }

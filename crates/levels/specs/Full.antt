@@ -3,6 +3,7 @@
 --     listed n f              == the list f 0, f 1, …, f (n − 1)
 --     sourceAt p m k i        == the number of the source of the rule that a template with mark m and source i gives at k
 --     delayAt m k s d         == the delay of that rule, where the template's is d and its start delay s
+--     sourceOf g i, targetOf g i, leastOf g i, mostOf g i == the entries of rule i
 --     fullUnfolding g K       == the graph with 1 + p × K events whose rule k × templates + j is the instance of template j at k
 -- Assumes nothing.
 use mathlib.Core.List.{List, [], _∷_}
@@ -27,12 +28,21 @@ delayAt (suc m) zero s d = s
 delayAt (suc m) (suc k) s d = d
 
 -- rule i stands in row i / templates, at place i % templates of it
+abbrev pub sourceOf : StartedGraph → ℕ → ℕ
+sourceOf g i =
+    let T = templates (g .graph) in
+    sourceAt (g .graph .events) (mark (g .graph) (i % T)) (i / T) (source (g .graph) (i % T) .0)
+
+abbrev pub targetOf : StartedGraph → ℕ → ℕ
+targetOf g i = let T = templates (g .graph) in occurrence (g .graph) (i / T) (target (g .graph) (i % T)) .0
+
+abbrev pub leastOf : StartedGraph → ℕ → ℤ
+leastOf g i = let T = templates (g .graph) in delayAt (mark (g .graph) (i % T)) (i / T) (startLeast g (i % T)) (least (g .graph) (i % T))
+
+abbrev pub mostOf : StartedGraph → ℕ → ℤ
+mostOf g i = let T = templates (g .graph) in delayAt (mark (g .graph) (i % T)) (i / T) (startMost g (i % T)) (most (g .graph) (i % T))
+
 abbrev pub fullUnfolding : StartedGraph → ℕ → Graph
 fullUnfolding g K =
-    let p = g .graph .events in
-    let T = templates (g .graph) in
-    graphOf (1 + p * K)
-    (listed (T * K) (λ i. sourceAt p (mark (g .graph) (i % T)) (i / T) (source (g .graph) (i % T) .0)))
-    (listed (T * K) (λ i. occurrence (g .graph) (i / T) (target (g .graph) (i % T)) .0))
-    (listed (T * K) (λ i. delayAt (mark (g .graph) (i % T)) (i / T) (startLeast g (i % T)) (least (g .graph) (i % T))))
-    (listed (T * K) (λ i. delayAt (mark (g .graph) (i % T)) (i / T) (startMost g (i % T)) (most (g .graph) (i % T))))
+    let n = templates (g .graph) * K in
+    graphOf (1 + g .graph .events * K) (listed n (sourceOf g)) (listed n (targetOf g)) (listed n (leastOf g)) (listed n (mostOf g))
