@@ -70,7 +70,8 @@ module _ {g : StartedGraph} {K : ℕ} {s : Event} {ks : ℕ} {t : Event} {kt : �
   pub target-other : 0 ≡ occurrence (g .graph) kt t .0 → ⊥
   target-other e = never-root (g .graph) kt t (sym e)
 
-  module _ {cap : ℕ → Limit} {full : ℕ → List Pair} (solved : Solved (fullUnfolding g K) (occurrence (g .graph) ks s .0) (occurrence (g .graph) kt t .0) cap full) where
+  module _ {cap : ℕ → Limit} {full : ℕ → List Pair}
+      (solved : Solved (fullUnfolding g K) (occurrence (g .graph) ks s .0) (occurrence (g .graph) kt t .0) cap full) where
     pub answer-overfull : (v : ℕ) → v < 1 + g .graph .events * K → 64 < length (full v) → LongAnswered g K s ks t kt 12 0 (pos 0)
     answer-overfull v l over = long-overfull kept (solved-overfull solved l over)
 

@@ -27,7 +27,8 @@ pub record Folded (g : StartedGraph) (k l : ℕ) (u v : Event) (n : ℕ) : Type 
   pub way : k ≡ l → (w : MarkZeroWay (g .graph) u v) × (templatesOn w ≡ n)
 
 module _ {g : StartedGraph} where
-  empty-folds : (k l : ℕ) (u v : Event) → u .0 < g .graph .events → v .0 < g .graph .events → occurrence (g .graph) k u .0 ≡ occurrence (g .graph) l v .0 → Folded g k l u v 0
+  empty-folds : (k l : ℕ) (u v : Event) → u .0 < g .graph .events → v .0 < g .graph .events
+      → occurrence (g .graph) k u .0 ≡ occurrence (g .graph) l v .0 → Folded g k l u v 0
   empty-folds k l u v hu hv e =
       let (same, same-event) = numbers-apart (g .graph) k l u v hu hv e in
       record {

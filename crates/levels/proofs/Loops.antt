@@ -1,14 +1,25 @@
 -- A node's turn as loops over the templates, one template a turn.
 --     LeastBelow At f r c              c is the least f j over the templates below r with At j
 --     least-none, least-hit, least-miss, least-done   before the first template; a template with At; one without; after the last
---     Candidate …, TurnBelow At Here own sets r C     C holds the candidates of the templates below r with At j, and the unit where Here holds
+--     TurnBelow At Here own sets r C     C holds the candidates of the templates below r with At j, and the unit where Here holds
 --     turn-none, turn-hit, turn-miss, turn-done       the same of the candidates
 --     Added own T C C′                   C′ holds C's pairs and those of own composed with T's, and no other
 --     added-none, added-more             a template's own loop, over the pairs of its set
 -- Assumes nothing.
 use mathlib.Core.Path.{_≡_, refl, sym, subst}
 use mathlib.Core.Logic.{_⊎_, inl, inr}
-use mathlib.Core.List.{List, [], _∷_, _++_, List·Memᴰ·head as here, List·Memᴰ·not-nil, List·Memᴰ·append-cases, List·Memᴰ·eq-of-singleton, Memᴰ·append-left, Memᴰ·append-right}
+use mathlib.Core.List.{
+  List,
+  [],
+  _∷_,
+  _++_,
+  List·Memᴰ·head as here,
+  List·Memᴰ·not-nil,
+  List·Memᴰ·append-cases,
+  List·Memᴰ·eq-of-singleton,
+  Memᴰ·append-left,
+  Memᴰ·append-right,
+}
 use Prim.Native.Nat.{ℕ, suc, _<_}
 use native.Mathlib.Omega.{arith}
 use Rattle.sequences.proofs.Below.{below-next}
@@ -18,19 +29,19 @@ use Rattle.sets.specs.Set.{_∈_}
 use Rattle.sets.proofs.Limits.{≤ᴸ-trans}
 use Rattle.processes.specs.Process.{templates}
 use Rattle.levels.specs.Started.{StartedGraph}
-use Rattle.levels.specs.Parts.Turns.{LeastTemplate, TemplateTurn}
+use Rattle.levels.specs.Parts.Turns.{Reached, LeastTemplate, Candidate, TemplateTurn}
 
 -- ---- the least
 
 pub record LeastBelow (At : ℕ → Type 0) (f : ℕ → Limit) (r : ℕ) (c : Limit) : Type 0 where
-  pub reached : (c ≡ unlimited) ⊎ ((j : ℕ) × (j < r) × At j × (f j ≡ c))
+  pub reached : Reached At f r c
   pub bound : (j : ℕ) → j < r → At j → c ≤ᴸ f j
 
 module _ {At : ℕ → Type 0} {f : ℕ → Limit} where
   pub least-none : LeastBelow At f 0 unlimited
   least-none = record { reached = inl refl; bound = λ j l. absurd (let no : ⊥ = omega arith in no) }
 
-  reached-later : {r : ℕ} {c : Limit} → (c ≡ unlimited) ⊎ ((j : ℕ) × (j < r) × At j × (f j ≡ c)) → (c ≡ unlimited) ⊎ ((j : ℕ) × (j < suc r) × At j × (f j ≡ c))
+  reached-later : {r : ℕ} {c : Limit} → Reached At f r c → Reached At f (suc r) c
   reached-later (inl e) = inl e
   reached-later (inr (j, l, a, e)) = inr (j, omega arith, a, e)
 
@@ -42,18 +53,14 @@ module _ {At : ℕ → Type 0} {f : ℕ → Limit} where
   least-hit {r} {c} {d} a h under-c under-f which =
       record { reached = by which; bound = below-next (λ j. At j → d ≤ᴸ f j) r (λ j l b. ≤ᴸ-trans under-c (h .bound j l b)) (λ b. under-f) }
     where
-      by : (d ≡ c) ⊎ (d ≡ f r) → (d ≡ unlimited) ⊎ ((j : ℕ) × (j < suc r) × At j × (f j ≡ d))
-      by (inl e) = subst (λ (x : Limit). (x ≡ unlimited) ⊎ ((j : ℕ) × (j < suc r) × At j × (f j ≡ x))) (sym e) (reached-later (h .reached))
+      by : (d ≡ c) ⊎ (d ≡ f r) → Reached At f (suc r) d
+      by (inl e) = subst (Reached At f (suc r)) (sym e) (reached-later (h .reached))
       by (inr e) = inr (r, omega arith, a, sym e)
 
   pub least-done : {g : StartedGraph} {c : Limit} → LeastBelow At f (templates (g .graph)) c → LeastTemplate g At f c
   least-done h = record { reached = h .reached; bound = h .bound }
 
 -- ---- the candidates
-
--- what a candidate of the templates below r is
-abbrev pub Candidate : (At : ℕ → Type 0) (Here : Type 0) (own : ℕ → Pair) (sets : ℕ → List Pair) (r : ℕ) (p : Pair) → Type 0
-Candidate At Here own sets r p = (Here × (p ≡ unit)) ⊎ ((j : ℕ) × (q : Pair) × (j < r) × At j × (q ∈ sets j) × (p ≡ compose (own j) q))
 
 pub record TurnBelow (At : ℕ → Type 0) (Here : Type 0) (own : ℕ → Pair) (sets : ℕ → List Pair) (r : ℕ) (C : List Pair) : Type 0 where
   pub here : Here → unit ∈ C

@@ -52,7 +52,8 @@ module _ {g : StartedGraph} {K : ℕ} {graph : Graph} (fit : Fit g) (unfolds : U
     set-size v q m =
         let small : 1000000 * (g .graph .events * K) ≤ 3200000000000 = rounds-few (g .graph .events) K few copies in
         let h : PairWithin (1000000 * (g .graph .events * K)) (1000000 * (g .graph .events * K) + 1000000 * (g .graph .events * K)) q =
-        closed-within (unfolded-sound fit unfolds) events-few (unfolded-delays fit unfolds) hs ht (record { each = λ v l. solved .caps v }) (solved .sets .each v .closes) q m in
+        closed-within (unfolded-sound fit unfolds) events-few (unfolded-delays fit unfolds) hs ht (record { each = λ v l. solved .caps v })
+        (solved .sets .each v .closes) q m in
         record {
           l-within = record { within = λ a e. within-wider small (h .l-within .within a e) };
           w-within = record { within = λ a e. within-wider (omega (arith, small)) (h .w-within .within a e) };

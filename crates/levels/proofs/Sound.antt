@@ -83,7 +83,8 @@ module _ {g : StartedGraph} {K : ℕ} {graph : Graph} (fit : Fit g) (unfolds : U
   unfolded-delays i l = rule-sized i l .1
 
   -- template j at k leads to occurrence k of its target
-  pub template-enters : (k j : ℕ) → k < K → j < templates (g .graph) → rule.target graph (k * templates (g .graph) + j) ≡ occurrence (g .graph) k (target (g .graph) j) .0
+  pub template-enters : (k j : ℕ) → k < K → j < templates (g .graph)
+      → rule.target graph (k * templates (g .graph) + j) ≡ occurrence (g .graph) k (target (g .graph) j) .0
   template-enters k j below h =
       let r : RuleAt g k j graph (k * templates (g .graph) + j) = unfolds .each k j below h in
       r .to-number ∙ ap number (instance-enters (r .instance))
@@ -104,7 +105,8 @@ module _ {g : StartedGraph} {K : ℕ} {graph : Graph} (fit : Fit g) (unfolds : U
           )
 
   module _ (rank : ℕ → ℕ) (higher : (i : ℕ) → i < rules graph → rank (rule.source graph i) < rank (rule.target graph i)) where
-    reached-at : (v : ℕ) → v < graph .events → ((i : ℕ) → i < rules graph → rule.target graph i ≡ v → Path graph 0 (rule.source graph i)) → Dec (v ≡ 0) → Path graph 0 v
+    reached-at : (v : ℕ) → v < graph .events → ((i : ℕ) → i < rules graph → rule.target graph i ≡ v → Path graph 0 (rule.source graph i))
+        → Dec (v ≡ 0) → Path graph 0 v
     reached-at v l before (yes e) = subst (Path graph 0) (sym e) stay
     reached-at v l before (no n) =
         let (i, h, to) = rule-into v l n in

@@ -19,7 +19,7 @@ use lib.IntN.{negℤ}
 use lib.ListN.{length}
 use Rattle.graphs.specs.Graph.{Graph}
 use Rattle.sets.specs.Limit.{Limit, number, unlimited, _≤ᴸ_, _+ᴸ_}
-use Rattle.sets.specs.Pair.{Pair, pair, compose, unit}
+use Rattle.sets.specs.Pair.{Pair, pair, compose}
 use Rattle.sets.specs.Set.{_∈_, Prunes}
 use Rattle.sets.specs.Family.{Covers}
 use Rattle.paths.specs.PathPair.{PathPairs, Overfull}
@@ -29,8 +29,8 @@ use Rattle.processes.specs.declared.Event.{Event}
 use Rattle.processes.specs.Process.{templates, source, target, least, most, mark, occurrence}
 use Rattle.processes.proofs.Occurrences.{OneOccurrence, occurrence-below, occurrence-found}
 use Rattle.levels.specs.Started.{StartedGraph, startLeast, startMost, Unfolds}
-use Rattle.levels.specs.Parts.Turns.{ahead, LeastTemplate, TemplateTurn}
-use Rattle.levels.specs.Parts.Sweep.{byMark, Ranked, Whole, LevelHolds, Fits, Swept}
+use Rattle.levels.specs.Parts.Turns.{ahead, Reached, LeastTemplate, Candidate, TemplateTurn}
+use Rattle.levels.specs.Parts.Sweep.{byMark, capAhead, setAhead, Ranked, Whole, LevelHolds, Fits, Swept}
 use Rattle.levels.proofs.Sound.{Fit, unfolded-sound}
 use Rattle.levels.proofs.Turns.{level-cap, level-set, occurrence-cap, occurrence-set, root-cap, root-set}
 
@@ -41,7 +41,7 @@ pub least-same : {g : StartedGraph} {At : ℕ → Type 0} {f h : ℕ → Limit} 
 least-same {g} {At} {f} {h} {c} same x =
     record { reached = by (x .reached); bound = λ j l a. subst (λ (y : Limit). c ≤ᴸ y) (same j l a) (x .bound j l a) }
   where
-    by : (c ≡ unlimited) ⊎ ((j : ℕ) × (j < templates (g .graph)) × At j × (f j ≡ c)) → (c ≡ unlimited) ⊎ ((j : ℕ) × (j < templates (g .graph)) × At j × (h j ≡ c))
+    by : Reached At f (templates (g .graph)) c → Reached At h (templates (g .graph)) c
     by (inl e) = inl e
     by (inr (j, l, a, e)) = inr (j, l, a, sym (same j l a) ∙ e)
 
@@ -56,8 +56,7 @@ turn-same {g} {At} {Here} {own} {own′} {sets} {sets′} {C} owns same x =
       only = λ r m. by r (x .only r m);
     }
   where
-    by : (r : Pair) → (Here × (r ≡ unit)) ⊎ ((j : ℕ) × (q : Pair) × (j < templates (g .graph)) × At j × (q ∈ sets j) × (r ≡ compose (own j) q))
-        → (Here × (r ≡ unit)) ⊎ ((j : ℕ) × (q : Pair) × (j < templates (g .graph)) × At j × (q ∈ sets′ j) × (r ≡ compose (own′ j) q))
+    by : (r : Pair) → Candidate At Here own sets (templates (g .graph)) r → Candidate At Here own′ sets′ (templates (g .graph)) r
     by r (inl h) = inl h
     by r (inr (j, q, l, a, m, e)) =
         inr (j, q, l, a, subst (λ (T : List Pair). q ∈ T) (same j l a) m, e ∙ ap (λ (p : Pair). compose p q) (owns j l a))
@@ -107,28 +106,29 @@ module _ {g : StartedGraph} {K : ℕ} {graph : Graph} (fit : Fit g) (unfolds : U
           fits-here = record { each = λ u hu h. absurd (let no : ⊥ = omega (arith, ranks (u .0) hu, h) in no) };
         }
 
-    module _ (ranked : Ranked g rank) {r : ℕ} {caps : ℕ → Limit} {sets : ℕ → List Pair} (swept : Swept g cap full rank room k (suc r) caps sets above-caps above-sets)
+    module _ (ranked : Ranked g rank) {r : ℕ} {caps : ℕ → Limit} {sets : ℕ → List Pair}
+        (swept : Swept g cap full rank room k (suc r) caps sets above-caps above-sets)
         (u : Event) (hu : u .0 < g .graph .events) (its-turn : rank (u .0) ≡ r) where
       -- the target of a mark-0 template out of u had its turn
       later : (j : ℕ) → j < templates (g .graph) → source (g .graph) j ≡ u → mark (g .graph) j ≡ 0 → suc r ≤ rank (target (g .graph) j .0)
       later j l from m = omega (arith, ranked j l m, ap (λ (x : Event). rank (x .0)) from, its-turn)
 
       cap-ahead-is : (j : ℕ) → j < templates (g .graph) → source (g .graph) j ≡ u
-          → byMark (mark (g .graph) j) (caps (target (g .graph) j .0)) (above-caps (target (g .graph) j .0)) ≡ cap (ahead g k j)
+          → capAhead g caps above-caps j ≡ cap (ahead g k j)
       cap-ahead-is j l from =
           ahead-is cap g k j (mark (g .graph) j) refl (fit .each .marks j l)
           (λ m. swept .here .caps-hold (target (g .graph) j) (fit .each .ends j l .target-known) (later j l from m))
           (swept .above .caps-hold (target (g .graph) j) (fit .each .ends j l .target-known) tt)
 
       set-ahead-is : (j : ℕ) → j < templates (g .graph) → source (g .graph) j ≡ u
-          → byMark (mark (g .graph) j) (sets (target (g .graph) j .0)) (above-sets (target (g .graph) j .0)) ≡ full (ahead g k j)
+          → setAhead g sets above-sets j ≡ full (ahead g k j)
       set-ahead-is j l from =
           ahead-is full g k j (mark (g .graph) j) refl (fit .each .marks j l)
           (λ m. swept .here .sets-hold (target (g .graph) j) (fit .each .ends j l .target-known) (later j l from m))
           (swept .above .sets-hold (target (g .graph) j) (fit .each .ends j l .target-known) tt)
 
       pub swept-cap : s < graph .events → (occurrence (g .graph) k u .0 ≡ s → ⊥) → (c : Limit)
-          → LeastTemplate g (λ j. source (g .graph) j ≡ u) (λ j. byMark (mark (g .graph) j) (caps (target (g .graph) j .0)) (above-caps (target (g .graph) j .0)) +ᴸ number (negℤ (least (g .graph) j))) c
+          → LeastTemplate g (λ j. source (g .graph) j ≡ u) (λ j. capAhead g caps above-caps j +ᴸ number (negℤ (least (g .graph) j))) c
           → c ≡ cap (occurrence (g .graph) k u .0)
       swept-cap known other c h =
           occurrence-cap fit unfolds solved k u hu known other c
@@ -136,8 +136,7 @@ module _ {g : StartedGraph} {K : ℕ} {graph : Graph} (fit : Fit g) (unfolds : U
 
       pub swept-set : t < graph .events → {C : List Pair}
           → TemplateTurn g (λ j. source (g .graph) j ≡ u) (occurrence (g .graph) k u .0 ≡ t)
-          (λ j. pair (number (most (g .graph) j)) (byMark (mark (g .graph) j) (caps (target (g .graph) j .0)) (above-caps (target (g .graph) j .0))))
-          (λ j. byMark (mark (g .graph) j) (sets (target (g .graph) j .0)) (above-sets (target (g .graph) j .0))) C
+          (λ j. pair (number (most (g .graph) j)) (capAhead g caps above-caps j)) (λ j. setAhead g sets above-sets j) C
           → Covers C (PathPairs graph cap t (occurrence (g .graph) k u .0)) × ((T : List Pair) → Prunes C T → T ≡ full (occurrence (g .graph) k u .0))
       swept-set known turn =
           occurrence-set fit unfolds solved k u hu known
@@ -206,7 +205,8 @@ module _ {g : StartedGraph} {K : ℕ} {graph : Graph} (fit : Fit g) (unfolds : U
         (least-same (λ j l m. ap (λ (x : Limit). x +ᴸ number (negℤ (startLeast g j))) (level .caps-hold (target (g .graph) j) (fit .each .ends j l .target-known) tt)) h)
 
     pub swept-root-set : t < graph .events → {C : List Pair}
-        → TemplateTurn g (λ j. mark (g .graph) j ≡ 1) (0 ≡ t) (λ j. pair (number (startMost g j)) (caps (target (g .graph) j .0))) (λ j. sets (target (g .graph) j .0)) C
+        → TemplateTurn g (λ j. mark (g .graph) j ≡ 1) (0 ≡ t)
+        (λ j. pair (number (startMost g j)) (caps (target (g .graph) j .0))) (λ j. sets (target (g .graph) j .0)) C
         → Covers C (PathPairs graph cap t 0) × ((T : List Pair) → Prunes C T → T ≡ full 0)
     swept-root-set known turn =
         root-set fit unfolds solved some known
@@ -227,6 +227,7 @@ module _ {g : StartedGraph} {K : ℕ} {graph : Graph} (fit : Fit g) (unfolds : U
           by : OneOccurrence (g .graph) K v → length (full v) ≤ room
           by o = subst (λ (x : ℕ). length (full x) ≤ room) (o .its-number) (levels (o .k) .each (o .event) (o .is-event) tt)
 
-  pub swept-overfull : {room : ℕ} (k : ℕ) (u : Event) → k < K → u .0 < g .graph .events → room < length (full (occurrence (g .graph) k u .0)) → Overfull graph s t room
+  pub swept-overfull : {room : ℕ} (k : ℕ) (u : Event) → k < K → u .0 < g .graph .events
+      → room < length (full (occurrence (g .graph) k u .0)) → Overfull graph s t room
   swept-overfull k u below hu over =
       solved-overfull solved (let known = occurrence-below (g .graph) K k u hu below in omega (arith, known, unfolds .event-count)) over

@@ -17,21 +17,21 @@ use Rattle.graphs.specs.Graph as rule
 use Rattle.graphs.specs.Graph.{Graph, rules}
 use Rattle.graphs.specs.Path.{Path}
 use Rattle.sets.specs.Limit.{Limit, number, unlimited, _≤ᴸ_, _+ᴸ_}
-use Rattle.sets.specs.Pair.{Pair, pair, compose, unit}
+use Rattle.sets.specs.Pair.{Pair, pair, compose}
 use Rattle.sets.specs.Set.{_∈_, Prunes}
 use Rattle.sets.specs.Family.{Covers}
 use Rattle.paths.specs.PathPair.{rulePair, PathPairs}
-use Rattle.paths.specs.Parts.Turn.{Turn}
+use Rattle.paths.specs.Parts.Turn.{Turn, Candidate as RuleCandidate}
 use Rattle.paths.specs.Parts.Solved.{Solved}
 use Rattle.paths.proofs.Caps.{cap-at-s, cap-ahead}
 use Rattle.paths.proofs.Solved.{outside-path, cap-found, turn-found, no-path-cap, no-path-set}
 use Rattle.processes.specs.declared.Event.{Event}
-use Rattle.processes.specs.Process.{templates, source, target, least, most, mark, occurrence}
+use Rattle.processes.specs.Process.{templates, source, least, most, mark, occurrence}
 use Rattle.levels.specs.Started.{StartedGraph, startLeast, startMost, Unfolds}
-use Rattle.levels.specs.Parts.Turns.{ahead, LeastTemplate, TemplateTurn}
+use Rattle.levels.specs.Parts.Turns.{ahead, startAhead, Reached, LeastTemplate, Candidate, TemplateTurn}
 use Rattle.levels.proofs.Sound.{Fit, unfolded-ends, unfolded-sound}
 use Rattle.levels.proofs.Folds.{no-path-back}
-use Rattle.levels.proofs.Outgoing.{IsRule, ByTemplates, occurrence-rules, root-rules}
+use Rattle.levels.proofs.Outgoing.{OfTemplate, Given, ByTemplates, occurrence-rules, root-rules}
 
 -- two nodes and two delays that are one give one cap ahead, and one pair
 caps-same : (cap : ℕ → Limit) {x y : ℕ} {d e : ℤ} → x ≡ y → d ≡ e → cap x +ᴸ number (negℤ d) ≡ cap y +ᴸ number (negℤ e)
@@ -67,19 +67,21 @@ module _ {g : StartedGraph} {K : ℕ} {graph : Graph} (fit : Fit g) (unfolds : U
     pub node-cap : s < graph .events → (v ≡ s → ⊥) → (c : Limit) → LeastTemplate g From (λ j. cap (to j) +ᴸ number (negℤ (low j))) c → c ≡ cap v
     node-cap hs other c h =
         cap-found solved
-        (cap-ahead cap other (λ i l out. solved .caps (rule.target graph i)) c (record { reached = reaching (h .reached); bound = λ i l out. under i (by-templates .out i l out) }))
+        (cap-ahead cap other (λ i l out. solved .caps (rule.target graph i)) c
+        (record { reached = reaching (h .reached); bound = λ i l out. under i (by-templates .out i l out) }))
       where
-        under : (i : ℕ) → (j : ℕ) × (j < templates (g .graph)) × From j × IsRule graph i (to j) (low j) (high j)
+        under : (i : ℕ) → OfTemplate g graph i From to low high
             → c ≤ᴸ (cap (rule.target graph i) +ᴸ number (negℤ (rule.least graph i)))
         under i (j, l, from, is) = subst (λ (x : Limit). c ≤ᴸ x) (sym (caps-same cap (is .enters) (is .least-is))) (h .bound j l from)
 
-        reaching : (c ≡ unlimited) ⊎ ((j : ℕ) × (j < templates (g .graph)) × From j × (cap (to j) +ᴸ number (negℤ (low j)) ≡ c))
-            → (c ≡ unlimited) ⊎ ((i : ℕ) × (i < rules graph) × (rule.source graph i ≡ v) × (cap (rule.target graph i) +ᴸ number (negℤ (rule.least graph i)) ≡ c))
+        ByRule : Type 0
+        ByRule = Reached (λ i. rule.source graph i ≡ v) (λ i. cap (rule.target graph i) +ᴸ number (negℤ (rule.least graph i))) (rules graph) c
+
+        reaching : Reached From (λ j. cap (to j) +ᴸ number (negℤ (low j))) (templates (g .graph)) c → ByRule
         reaching (inl e) = inl e
         reaching (inr (j, l, from, e)) = on (by-templates .back j l from)
           where
-            on : ((i : ℕ) × (i < rules graph) × (rule.source graph i ≡ v) × IsRule graph i (to j) (low j) (high j)) ⊎ (graph .events ≤ to j)
-                → (c ≡ unlimited) ⊎ ((i : ℕ) × (i < rules graph) × (rule.source graph i ≡ v) × (cap (rule.target graph i) +ᴸ number (negℤ (rule.least graph i)) ≡ c))
+            on : Given graph v (to j) (low j) (high j) ⊎ (graph .events ≤ to j) → ByRule
             on (inl (i, k, leaves, is)) = inr (i, k, leaves, caps-same cap (is .enters) (is .least-is) ∙ e)
             on (inr outside) = inl (sym e ∙ ap (λ (x : Limit). x +ᴸ number (negℤ (low j))) (past-cap hs (to j) outside))
 
@@ -87,22 +89,21 @@ module _ {g : StartedGraph} {K : ℕ} {graph : Graph} (fit : Fit g) (unfolds : U
         → Covers C (PathPairs graph cap t v) × ((T : List Pair) → Prunes C T → T ≡ full v)
     node-set ht {C} turn = turn-found solved rule-turn
       where
-        on-rule : (i : ℕ) → (j : ℕ) × (j < templates (g .graph)) × From j × IsRule graph i (to j) (low j) (high j)
-            → (q : Pair) → q ∈ full (rule.target graph i) → compose (rulePair graph cap i) q ∈ C
+        on-rule : (i : ℕ) → OfTemplate g graph i From to low high → (q : Pair) → q ∈ full (rule.target graph i) → compose (rulePair graph cap i) q ∈ C
         on-rule i (j, l, from, is) q m =
             subst (λ (x : Pair). compose x q ∈ C) (sym (pairs-same cap (is .enters) (is .most-is)))
             (turn .on j l from q (subst (λ (x : ℕ). q ∈ full x) (is .enters) m))
 
         reaching : (r : Pair)
-            → ((v ≡ t) × (r ≡ unit)) ⊎ ((j : ℕ) × (q : Pair) × (j < templates (g .graph)) × From j × (q ∈ full (to j)) × (r ≡ compose (pair (number (high j)) (cap (to j))) q))
-            → ((v ≡ t) × (r ≡ unit)) ⊎ ((i : ℕ) × (q : Pair) × (i < rules graph) × (rule.source graph i ≡ v) × (q ∈ full (rule.target graph i)) × (r ≡ compose (rulePair graph cap i) q))
+            → Candidate From (v ≡ t) (λ j. pair (number (high j)) (cap (to j))) (λ j. full (to j)) (templates (g .graph)) r
+            → RuleCandidate graph cap t v (λ i. full (rule.target graph i)) (rules graph) r
         reaching r (inl h) = inl h
         reaching r (inr (j, q, l, from, m, e)) = on (by-templates .back j l from)
           where
-            on : ((i : ℕ) × (i < rules graph) × (rule.source graph i ≡ v) × IsRule graph i (to j) (low j) (high j)) ⊎ (graph .events ≤ to j)
-                → ((v ≡ t) × (r ≡ unit)) ⊎ ((i : ℕ) × (q : Pair) × (i < rules graph) × (rule.source graph i ≡ v) × (q ∈ full (rule.target graph i)) × (r ≡ compose (rulePair graph cap i) q))
+            on : Given graph v (to j) (low j) (high j) ⊎ (graph .events ≤ to j) → RuleCandidate graph cap t v (λ i. full (rule.target graph i)) (rules graph) r
             on (inl (i, k, leaves, is)) =
-                inr (i, q, k, leaves, subst (λ (x : ℕ). q ∈ full x) (sym (is .enters)) m, e ∙ ap (λ (x : Pair). compose x q) (sym (pairs-same cap (is .enters) (is .most-is))))
+                let same : pair (number (high j)) (cap (to j)) ≡ rulePair graph cap i = sym (pairs-same cap (is .enters) (is .most-is)) in
+                inr (i, q, k, leaves, subst (λ (x : ℕ). q ∈ full x) (sym (is .enters)) m, e ∙ ap (λ (x : Pair). compose x q) same)
             on (inr outside) = absurd (List·Memᴰ·not-nil (subst (λ (T : List Pair). q ∈ T) (past-set ht (to j) outside) m))
 
         rule-turn : Turn graph cap t v (λ i. full (rule.target graph i)) C
@@ -118,16 +119,17 @@ module _ {g : StartedGraph} {K : ℕ} {graph : Graph} (fit : Fit g) (unfolds : U
     occurrence-cap = node-cap (occurrence-rules fit unfolds k u hu)
 
     pub occurrence-set : t < graph .events → {C : List Pair}
-        → TemplateTurn g (λ j. source (g .graph) j ≡ u) (occurrence (g .graph) k u .0 ≡ t) (λ j. pair (number (most (g .graph) j)) (cap (ahead g k j))) (λ j. full (ahead g k j)) C
+        → TemplateTurn g (λ j. source (g .graph) j ≡ u) (occurrence (g .graph) k u .0 ≡ t)
+        (λ j. pair (number (most (g .graph) j)) (cap (ahead g k j))) (λ j. full (ahead g k j)) C
         → Covers C (PathPairs graph cap t (occurrence (g .graph) k u .0)) × ((T : List Pair) → Prunes C T → T ≡ full (occurrence (g .graph) k u .0))
     occurrence-set ht turn = node-set (occurrence-rules fit unfolds k u hu) ht turn
 
   module _ (some : 0 < K) where
     pub root-cap : s < graph .events → (0 ≡ s → ⊥) → (c : Limit)
-        → LeastTemplate g (λ j. mark (g .graph) j ≡ 1) (λ j. cap (occurrence (g .graph) 0 (target (g .graph) j) .0) +ᴸ number (negℤ (startLeast g j))) c → c ≡ cap 0
+        → LeastTemplate g (λ j. mark (g .graph) j ≡ 1) (λ j. cap (startAhead g j) +ᴸ number (negℤ (startLeast g j))) c → c ≡ cap 0
     root-cap = node-cap (root-rules fit unfolds some)
 
     pub root-set : t < graph .events → {C : List Pair}
-        → TemplateTurn g (λ j. mark (g .graph) j ≡ 1) (0 ≡ t) (λ j. pair (number (startMost g j)) (cap (occurrence (g .graph) 0 (target (g .graph) j) .0))) (λ j. full (occurrence (g .graph) 0 (target (g .graph) j) .0)) C
+        → TemplateTurn g (λ j. mark (g .graph) j ≡ 1) (0 ≡ t) (λ j. pair (number (startMost g j)) (cap (startAhead g j))) (λ j. full (startAhead g j)) C
         → Covers C (PathPairs graph cap t 0) × ((T : List Pair) → Prunes C T → T ≡ full 0)
     root-set ht turn = node-set (root-rules fit unfolds some) ht turn

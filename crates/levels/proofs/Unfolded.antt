@@ -128,7 +128,8 @@ pub record SameRule (u u′ v v′ : Node) (d d′ D D′ : ℤ) : Type 0 where
   pub least-delay : d ≡ d′
   pub most-delay : D ≡ D′
 
-pub instance-unique : {g : StartedGraph} {k j : ℕ} {u u′ v v′ : Node} {d d′ D D′ : ℤ} → Instance g k j u v d D → Instance g k j u′ v′ d′ D′ → SameRule u u′ v v′ d d′ D D′
+pub instance-unique : {g : StartedGraph} {k j : ℕ} {u u′ v v′ : Node} {d d′ D D′ : ℤ}
+    → Instance g k j u v d D → Instance g k j u′ v′ d′ D′ → SameRule u u′ v v′ d d′ D D′
 instance-unique (together m) (together m′) = record { from = refl; to = refl; least-delay = refl; most-delay = refl }
 instance-unique (together m) (onward b m′ e) = absurd (let no : ⊥ = omega arith in no)
 instance-unique (together m) (start m′ e) = absurd (let no : ⊥ = omega arith in no)
@@ -141,7 +142,8 @@ instance-unique (start m e) (together m′) = absurd (let no : ⊥ = omega arith
 instance-unique (start m e) (onward b m′ e′) = absurd (let no : ⊥ = omega arith in no)
 instance-unique (start m e) (start m′ e′) = record { from = refl; to = refl; least-delay = refl; most-delay = refl }
 
-pub rule-at-place : {g : StartedGraph} {K : ℕ} {graph : Graph} → Unfolds g K graph → (i : ℕ) (p : Place (templates (g .graph)) K i) → RuleAt g (p .row) (p .within) graph i
+pub rule-at-place : {g : StartedGraph} {K : ℕ} {graph : Graph} → Unfolds g K graph
+    → (i : ℕ) (p : Place (templates (g .graph)) K i) → RuleAt g (p .row) (p .within) graph i
 rule-at-place {g} {K} {graph} unfolds i p =
     subst (RuleAt g (p .row) (p .within) graph) (sym (p .there)) (unfolds .each (p .row) (p .within) (p .row-below) (p .within-below))
 

@@ -81,7 +81,8 @@ module _ (g : StartedGraph) (K : ℕ) (s : Event) (ks : ℕ) (t : Event) (kt : �
     (at-zero-unique, (at-zero-unique, (lowest-unique, (lowest-unique, (lowest-unique, (missing-unique, (lowest-unique, (lowest-unique, (at-zero-unique, tt))))))))),
   )
 
-  pub long-unique : {r p r′ p′ : ℕ} {x x′ : ℤ} → LongAnswered g K s ks t kt r p x → LongAnswered g K s ks t kt r′ p′ x′ → (r ≡ r′) × (p ≡ p′) × (x ≡ x′)
+  pub long-unique : {r p r′ p′ : ℕ} {x x′ : ℤ} → LongAnswered g K s ks t kt r p x → LongAnswered g K s ks t kt r′ p′ x′
+      → (r ≡ r′) × (p ≡ p′) × (x ≡ x′)
   long-unique {r} {p} {r′} {p′} {x} {x′} a b = (same .0, same .1, by (ℕ-discrete r 0))
     where
       same : (r ≡ r′) × (p ≡ p′)
@@ -176,17 +177,20 @@ module _ (g : StartedGraph) where
       record { least-within = h .least-within; most-within = h .most-within; ordered = h .ordered }
 
   -- the event on a cycle exists, since a template leaves it
-  cycle-known : ((j : ℕ) → j < templates (g .graph) → EndsKept (plain (g .graph)) j) → (u v : Event) (w : MarkZeroWay (g .graph) u v) → 0 < templatesOn w → u .0 < g .graph .events
+  cycle-known : ((j : ℕ) → j < templates (g .graph) → EndsKept (plain (g .graph)) j)
+      → (u v : Event) (w : MarkZeroWay (g .graph) u v) → 0 < templatesOn w → u .0 < g .graph .events
   cycle-known ends u v empty some = absurd (let no : ⊥ = omega arith in no)
   cycle-known ends u v (along j l m from to w) some = subst (λ (x : Event). x .0 < g .graph .events) from (ends j l .source-known)
 
   -- a template that targets v, among those below r, or none
-  search : (v r : ℕ) → ((j : ℕ) × (j < r) × (target (g .graph) j .0 ≡ v)) ⊎ ((j : ℕ) → j < r → target (g .graph) j .0 ≡ v → ⊥)
+  abbrev Found : ℕ → ℕ → Type 0
+  Found v r = ((j : ℕ) × (j < r) × (target (g .graph) j .0 ≡ v)) ⊎ ((j : ℕ) → j < r → target (g .graph) j .0 ≡ v → ⊥)
+
+  search : (v r : ℕ) → Found v r
   search v zero = inr (λ j l. absurd (let no : ⊥ = omega arith in no))
   search v (suc r) = by (search v r) (ℕ-discrete (target (g .graph) r .0) v)
     where
-      by : ((j : ℕ) × (j < r) × (target (g .graph) j .0 ≡ v)) ⊎ ((j : ℕ) → j < r → target (g .graph) j .0 ≡ v → ⊥) → Dec (target (g .graph) r .0 ≡ v)
-          → ((j : ℕ) × (j < suc r) × (target (g .graph) j .0 ≡ v)) ⊎ ((j : ℕ) → j < suc r → target (g .graph) j .0 ≡ v → ⊥)
+      by : Found v r → Dec (target (g .graph) r .0 ≡ v) → Found v (suc r)
       by (inl (j, l, e)) d = inl (j, omega arith, e)
       by (inr none) (yes e) = inl (r, omega arith, e)
       by (inr none) (no n) = inr (below-next (λ j. target (g .graph) j .0 ≡ v → ⊥) r none n)
@@ -195,7 +199,12 @@ module _ (g : StartedGraph) where
       → ((v : ℕ) → OnCycle g v → ⊥) → ((v : ℕ) → Untargeted g v → ⊥) → Fit g
   fit-of no-2 no-3 no-7 no-5 no-6 =
       record {
-        each = record { ends = ends; delays = λ j l. delays-of {g = g .graph} j l (λ o. no-3 j (record { is-template = o .is-template; outside = inl (o .outside) })); marks = λ j l. mark-of j l (no-7 j) };
+        each =
+            record {
+              ends = ends;
+              delays = λ j l. delays-of {g = g .graph} j l (λ o. no-3 j (record { is-template = o .is-template; outside = inl (o .outside) }));
+              marks = λ j l. mark-of j l (no-7 j);
+            };
         starts = λ j l m. inside-start l (λ o. no-3 j (record { is-template = l; outside = inr (m, o) }));
         no-cycle = λ c. cycle (c .0) (c .1 .0) (c .1 .1);
         targeted = λ v l. found v l (search v (templates (g .graph)));
@@ -207,8 +216,7 @@ module _ (g : StartedGraph) where
       cycle : (v : Event) (w : MarkZeroWay (g .graph) v v) → 0 < templatesOn w → ⊥
       cycle v w some = no-5 (v .0) (record { is-event = cycle-known ends v v w some; cycle = (w, some) })
 
-      found : (v : ℕ) → v < g .graph .events → ((j : ℕ) × (j < templates (g .graph)) × (target (g .graph) j .0 ≡ v)) ⊎ ((j : ℕ) → j < templates (g .graph) → target (g .graph) j .0 ≡ v → ⊥)
-          → (j : ℕ) × (j < templates (g .graph)) × (target (g .graph) j .0 ≡ v)
+      found : (v : ℕ) → v < g .graph .events → Found v (templates (g .graph)) → (j : ℕ) × (j < templates (g .graph)) × (target (g .graph) j .0 ≡ v)
       found v l (inl h) = h
       found v l (inr none) = absurd (no-6 v (record { is-event = l; no-template = none }))
 
@@ -305,4 +313,5 @@ module _ {g : StartedGraph} {K : ℕ} {s : Event} {ks : ℕ} {t : Event} {kt : �
       passed-each : FirstOf (longChecks g K s ks t kt) 0 0
       passed-each =
           let (no-21, (no-22, (no-24, (no-2, (no-3, (no-7, (no-4, (no-5, (no-6, _))))))))) = input-none kept in
-          passed no-21 (passed no-22 (passed no-24 (passed no-2 (passed no-3 (passed no-7 (passed no-4 (passed no-5 (passed no-6 (passed (λ p a. fits (a .holds)) accepted)))))))))
+          passed no-21
+          (passed no-22 (passed no-24 (passed no-2 (passed no-3 (passed no-7 (passed no-4 (passed no-5 (passed no-6 (passed (λ p a. fits (a .holds)) accepted)))))))))

@@ -32,11 +32,13 @@ pub data Instance (g : StartedGraph) (k j : ℕ) : Node → Node → ℤ → ℤ
   -- "mark 0: from occurrence k of the source to occurrence k of the target, [d, D]"
   together :
       mark (g .graph) j ≡ 0
-      → Instance g k j (at (occurrence (g .graph) k (source (g .graph) j))) (at (occurrence (g .graph) k (target (g .graph) j))) (least (g .graph) j) (most (g .graph) j)
+      → Instance g k j (at (occurrence (g .graph) k (source (g .graph) j))) (at (occurrence (g .graph) k (target (g .graph) j)))
+      (least (g .graph) j) (most (g .graph) j)
   -- "mark 1 and k ≥ 1: from occurrence k − 1 of the source to occurrence k of the target, [d, D]"
   onward :
       (before : ℕ) → mark (g .graph) j ≡ 1 → k ≡ suc before
-      → Instance g k j (at (occurrence (g .graph) before (source (g .graph) j))) (at (occurrence (g .graph) k (target (g .graph) j))) (least (g .graph) j) (most (g .graph) j)
+      → Instance g k j (at (occurrence (g .graph) before (source (g .graph) j))) (at (occurrence (g .graph) k (target (g .graph) j)))
+      (least (g .graph) j) (most (g .graph) j)
   -- "mark 1 and k = 0: a start rule from the root to occurrence 0 of the target"; request 1: with its own start interval
   start : mark (g .graph) j ≡ 1 → k ≡ 0 → Instance g k j root (at (occurrence (g .graph) k (target (g .graph) j))) (startLeast g j) (startMost g j)
 

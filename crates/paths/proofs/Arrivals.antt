@@ -88,4 +88,6 @@ module _ {g : Graph} (sound : SoundGraph g) {s : ℕ} where
     u-arrives v l n =
         let o : UOf g s u v = steps .others v l n in
         let (i, h, to, e) = o .arrival-greatest .reached in
-        (i, h, to, ap (λ (x : ℤ). lesser (number x) (cap (target g i))) e ∙ ap (λ (x : ℕ). lesser (number (o .arrival)) (cap x)) to ∙ capped-lesser (caps .each v l) (o .capped))
+        let at-i : lesser (number (u (source g i) +ℤ most g i)) (cap (target g i)) ≡ lesser (number (o .arrival)) (cap (target g i)) =
+        ap (λ (x : ℤ). lesser (number x) (cap (target g i))) e in
+        (i, h, to, at-i ∙ ap (λ (x : ℕ). lesser (number (o .arrival)) (cap x)) to ∙ capped-lesser (caps .each v l) (o .capped))

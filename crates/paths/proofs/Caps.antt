@@ -59,7 +59,8 @@ cap-at-s {g} {s} acyclic e = subst (λ (x : ℕ). CapOf g s x (number (pos 0))) 
 
 -- m of a rule's target, less its least delay, for each path that begins with the rule; and a path that reaches it
 module _ {g : Graph} {s : ℕ} where
-  by-rule : {c : Limit} (i : ℕ) → CapOf g s (target g i) c → (q : Path g (target g i) s) → (c +ᴸ number (negℤ (least g i))) ≤ᴸ number (negℤ (least g i +ℤ leastSum q))
+  by-rule : {c : Limit} (i : ℕ) → CapOf g s (target g i) c → (q : Path g (target g i) s)
+      → (c +ᴸ number (negℤ (least g i))) ≤ᴸ number (negℤ (least g i +ℤ leastSum q))
   by-rule i (at-m x h) q =
       numbers (x +ℤ negℤ (least g i)) (negℤ (least g i +ℤ leastSum q))
       (omega (
@@ -92,7 +93,8 @@ module _ {g : Graph} {s : ℕ} where
       )
   reached-by i l out (no-m none) x e = absurd (not-number e)
 
-  module _ {v : ℕ} (cap : ℕ → Limit) (other : v ≡ s → ⊥) (targets : (i : ℕ) → i < rules g → source g i ≡ v → CapOf g s (target g i) (cap (target g i))) where
+  module _ {v : ℕ} (cap : ℕ → Limit) (other : v ≡ s → ⊥)
+      (targets : (i : ℕ) → i < rules g → source g i ≡ v → CapOf g s (target g i) (cap (target g i))) where
     pub cap-ahead : (c : Limit) → LeastOut g v (λ i. cap (target g i) +ᴸ number (negℤ (least g i))) c → CapOf g s v c
     cap-ahead (number x) h = at-m x (record { reached = path (h .reached); bound = λ p. at-least p (first-rule p) })
       where
@@ -134,7 +136,8 @@ module _ (g : Graph) (v : ℕ) (f : ℕ → Limit) where
   least-more : (r : ℕ) {c : Limit} → LeastBelow g v f r c → Dec (source g r ≡ v) → Compared c (f r) → (d : Limit) × LeastBelow g v f (suc r) d
   least-more r {c} h out t = by out t
     where
-      later : (c ≡ unlimited) ⊎ ((i : ℕ) × (i < r) × (source g i ≡ v) × (f i ≡ c)) → (c ≡ unlimited) ⊎ ((i : ℕ) × (i < suc r) × (source g i ≡ v) × (f i ≡ c))
+      later : (c ≡ unlimited) ⊎ ((i : ℕ) × (i < r) × (source g i ≡ v) × (f i ≡ c))
+          → (c ≡ unlimited) ⊎ ((i : ℕ) × (i < suc r) × (source g i ≡ v) × (f i ≡ c))
       later (inl e) = inl e
       later (inr (i, l, o, e)) = inr (i, omega arith, o, e)
 
@@ -171,7 +174,8 @@ module _ {g : Graph} (sound : SoundGraph g) (s : ℕ) where
       let (c, least-of) = least-out-exists g v (λ i. cap (target g i) +ᴸ number (negℤ (least g i))) in
       cap-ahead cap n targets c least-of
 
-  module _ (rank : ℕ → ℕ) (higher : (i : ℕ) → i < rules g → rank (source g i) < rank (target g i)) (below : (v : ℕ) → v < g .events → rank v < g .events) where
+  module _ (rank : ℕ → ℕ) (higher : (i : ℕ) → i < rules g → rank (source g i) < rank (target g i))
+      (below : (v : ℕ) → v < g .events → rank v < g .events) where
     capFrom : ℕ → ℕ → Limit
     capFrom zero v = unlimited
     capFrom (suc k) v = nextCap (capFrom k) v (ℕ-discrete v s)

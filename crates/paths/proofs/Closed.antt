@@ -35,7 +35,7 @@ use Rattle.sets.specs.Set.{_∈_, Prunes}
 use Rattle.sets.proofs.Covers.{prunes-closes}
 use Rattle.sets.proofs.Insertion.{prune}
 use Rattle.paths.specs.PathPair.{rulePair}
-use Rattle.paths.specs.Parts.Turn.{Turn}
+use Rattle.paths.specs.Parts.Turn.{Candidate, Turn}
 use Rattle.paths.specs.Parts.Solved.{Numbered, Full, Fully}
 use Rattle.paths.proofs.Turn.{turn-covers}
 
@@ -54,16 +54,13 @@ module _ (g : Graph) (cap : ℕ → Limit) (t v : ℕ) (sets : ℕ → List Pair
   candidates zero = ofTarget (ℕ-discrete v t)
   candidates (suc r) = ofRule r (ℕ-discrete (source g r) v) ++ candidates r
 
-  -- what a candidate is, of the rules below r
-  abbrev Candidate : ℕ → Pair → Type 0
-  Candidate r q = ((v ≡ t) × (q ≡ unit)) ⊎ ((i : ℕ) × (p : Pair) × (i < r) × (source g i ≡ v) × (p ∈ sets i) × (q ≡ compose (rulePair g cap i) p))
-
   of-rule : (i : ℕ) (d : Dec (source g i ≡ v)) → source g i ≡ v → (q : Pair) → q ∈ sets i → compose (rulePair g cap i) q ∈ ofRule i d
   unfolding ofRule
   of-rule i (yes e) out q m = Memᴰ·map (compose (rulePair g cap i)) m
   of-rule i (no n) out q m = absurd (n out)
 
-  of-rule-only : (i : ℕ) (d : Dec (source g i ≡ v)) (q : Pair) → q ∈ ofRule i d → (source g i ≡ v) × ((p : Pair) × (p ∈ sets i) × (q ≡ compose (rulePair g cap i) p))
+  of-rule-only : (i : ℕ) (d : Dec (source g i ≡ v)) (q : Pair) → q ∈ ofRule i d
+      → (source g i ≡ v) × ((p : Pair) × (p ∈ sets i) × (q ≡ compose (rulePair g cap i) p))
   unfolding ofRule
   of-rule-only i (yes e) q m =
       let (p, n, same) = Memᴰ·of-map (compose (rulePair g cap i)) (sets i) m in
@@ -93,16 +90,17 @@ module _ (g : Graph) (cap : ℕ → Limit) (t v : ℕ) (sets : ℕ → List Pair
       (λ i l out q m. Memᴰ·append-right (ofRule r (ℕ-discrete (source g r) v)) (candidates-on r i l out q m))
       (λ out q m. Memᴰ·append-left (candidates r) (of-rule r (ℕ-discrete (source g r) v) out q m))
 
-  candidates-only : (r : ℕ) (q : Pair) → q ∈ candidates r → Candidate r q
+  candidates-only : (r : ℕ) (q : Pair) → q ∈ candidates r → Candidate g cap t v sets r q
   unfolding candidates
   candidates-only zero q m = inl (of-target-only (ℕ-discrete v t) q m)
   candidates-only (suc r) q m = by (List·Memᴰ·append-cases (ofRule r (ℕ-discrete (source g r) v)) m) (λ k. candidates-only r q k)
     where
-      later : Candidate r q → Candidate (suc r) q
+      later : Candidate g cap t v sets r q → Candidate g cap t v sets (suc r) q
       later (inl h) = inl h
       later (inr (i, p, l, out, n, e)) = inr (i, p, omega arith, out, n, e)
 
-      by : (q ∈ ofRule r (ℕ-discrete (source g r) v)) ⊎ (q ∈ candidates r) → (q ∈ candidates r → Candidate r q) → Candidate (suc r) q
+      by : (q ∈ ofRule r (ℕ-discrete (source g r) v)) ⊎ (q ∈ candidates r) → (q ∈ candidates r → Candidate g cap t v sets r q)
+          → Candidate g cap t v sets (suc r) q
       by (inl k) on =
           let (out, (p, n, e)) = of-rule-only r (ℕ-discrete (source g r) v) q k in
           inr (r, p, omega arith, out, n, e)
@@ -122,8 +120,7 @@ pub turn-numbered : {g : Graph} {cap : ℕ → Limit} {t v : ℕ} (sets : ℕ �
     → ((i : ℕ) → i < rules g → source g i ≡ v → Numbered (sets i)) → {C : List Pair} → Turn g cap t v sets C → Numbered C
 turn-numbered {g} {cap} {t} {v} sets numbered turn = record { number-of = λ r m. by r (turn .only r m) }
   where
-    by : (r : Pair) → ((v ≡ t) × (r ≡ unit)) ⊎ ((i : ℕ) × (q : Pair) × (i < rules g) × (source g i ≡ v) × (q ∈ sets i) × (r ≡ compose (rulePair g cap i) q))
-        → (a : ℤ) × (r .l ≡ number a)
+    by : (r : Pair) → Candidate g cap t v sets (rules g) r → (a : ℤ) × (r .l ≡ number a)
     by r (inl (same, e)) = (pos 0, ap (λ (x : Pair). x .l) e)
     by r (inr (i, q, h, out, n, e)) =
         let (a, f) = numbered i h out .number-of q n in
@@ -153,7 +150,8 @@ module _ {g : Graph} (sound : SoundGraph g) (cap : ℕ → Limit) (t : ℕ) wher
   unfolding setFrom
   set-from k v targets = next-set (setFrom k) v targets (prune (candidates g cap t v (λ i. setFrom k (target g i)) (rules g)) .1)
 
-  module _ (rank : ℕ → ℕ) (higher : (i : ℕ) → i < rules g → rank (source g i) < rank (target g i)) (below : (v : ℕ) → v < g .events → rank v < g .events) where
+  module _ (rank : ℕ → ℕ) (higher : (i : ℕ) → i < rules g → rank (source g i) < rank (target g i))
+      (below : (v : ℕ) → v < g .events → rank v < g .events) where
     full-from : (k v : ℕ) → v < g .events → g .events ≤ rank v + k → Full g cap t v (setFrom k v)
     full-from zero v l high = absurd (let no : ⊥ = omega (arith, below v l) in no)
     full-from (suc k) v l high =

@@ -27,7 +27,22 @@ use Rattle.sets.specs.Limit.{Limit, number, unlimited, numbers, under, _+ᴸ_, 
 use Rattle.sets.specs.Pair.{Pair, pair, Dominates}
 use Rattle.sets.specs.Set.{_∈_, Dominated}
 use Rattle.sets.specs.Family.{Family, Covers, Closes}
-use Rattle.sets.proofs.Limits.{≤ᴸ-of, ≤ᴸ-trans, ≤ᴸ-antisym, number-same, not-number, Compared, at-most, above, compared, <ᴸ-≤ᴸ, lesser-left, lesser-right, lesser-greatest, ≤ᴸ-refl}
+use Rattle.sets.proofs.Limits.{
+  ≤ᴸ-refl,
+  ≤ᴸ-of,
+  ≤ᴸ-trans,
+  ≤ᴸ-antisym,
+  <ᴸ-≤ᴸ,
+  Compared,
+  at-most,
+  above,
+  compared,
+  number-same,
+  not-number,
+  lesser-left,
+  lesser-right,
+  lesser-greatest,
+}
 use Rattle.sets.proofs.Pairs.{pair-same, dominates-trans}
 use Rattle.sets.proofs.Sets.{pruned-apart}
 use Rattle.paths.specs.Cap.{CapOf, at-m, no-m, Caps}

@@ -60,10 +60,12 @@ module _ {g : Graph} {s t : ℕ} {cap : ℕ → Limit} {full : ℕ → List Pair
   pub set-found : {v : ℕ} {T : List Pair} → Closes T (PathPairs g cap t v) → T ≡ full v
   set-found {v} h = closes-unique h (solved .sets .each v .closes)
 
-  pub turn-found : {v : ℕ} {C : List Pair} → Turn g cap t v (λ i. full (target g i)) C → Covers C (PathPairs g cap t v) × ((T : List Pair) → Prunes C T → T ≡ full v)
+  pub turn-found : {v : ℕ} {C : List Pair} → Turn g cap t v (λ i. full (target g i)) C
+      → Covers C (PathPairs g cap t v) × ((T : List Pair) → Prunes C T → T ≡ full v)
   turn-found {v} turn =
       let covers =
-      turn-covers (λ i. full (target g i)) (λ i h out. solved .sets .each (target g i) .closes .covers) (λ i h out. solved .sets .each (target g i) .numbered .number-of) turn in
+      turn-covers (λ i. full (target g i)) (λ i h out. solved .sets .each (target g i) .closes .covers)
+      (λ i h out. solved .sets .each (target g i) .numbered .number-of) turn in
       (covers, λ T h. set-found (prunes-closes covers h))
 
   pub pruning-found : {v room : ℕ} {C : List Pair} (r : Pruning) → Covers C (PathPairs g cap t v) → PrunedTo C room r

@@ -3,7 +3,7 @@
 --     no-path-closes            where no path leads from v to t, the empty set closes the pairs of v's paths
 -- The argument: a path from v to t is empty, or a rule out of v and a path from its target. Assumes nothing.
 use mathlib.Core.Path.{_≡_, refl, sym, ap, subst}
-use mathlib.Core.Logic.{_⊎_, inl, inr}
+use mathlib.Core.Logic.{inl, inr}
 use mathlib.Core.List.{List, [], List·Memᴰ·not-nil}
 use Prim.Native.Nat.{ℕ, _<_}
 use lib.IntN.{ℤ, pos, _+ℤ_}
@@ -18,7 +18,7 @@ use Rattle.sets.specs.Family.{Covers, Closes}
 use Rattle.sets.proofs.Limits.{≤ᴸ-refl, ≤ᴸ-of, ≤ᴸ-trans, number-≤, +ᴸ-more, lesser-more}
 use Rattle.sets.proofs.Pairs.{dominates-refl, compose-more}
 use Rattle.paths.specs.PathPair.{rulePair, pathPair, PathPairs}
-use Rattle.paths.specs.Parts.Turn.{Turn}
+use Rattle.paths.specs.Parts.Turn.{Candidate, Turn}
 use Rattle.paths.proofs.PathPairs.{mostSum, pathPair-number, FirstPair, no-rule, one-rule, first-pair}
 
 -- how near the family comes to a pair r
@@ -49,8 +49,7 @@ module _ {g : Graph} {cap : ℕ → Limit} {t v : ℕ} where
         approaching : (r : Pair) → r ∈ C → (N : ℤ) → number N ≤ᴸ r .l → Near g cap t v r N
         approaching r m N k = by (turn .only r m)
           where
-            by : ((v ≡ t) × (r ≡ unit)) ⊎ ((i : ℕ) × (q : Pair) × (i < rules g) × (source g i ≡ v) × (q ∈ sets i) × (r ≡ compose (rulePair g cap i) q))
-                → Near g cap t v r N
+            by : Candidate g cap t v sets (rules g) r → Near g cap t v r N
             by (inl (same, e)) =
                 let (p, f) = subst (λ (x : ℕ). (p : Path g v x) × (pathPair cap p ≡ unit)) same (stay, refl) in
                 (pos 0, unlimited, (p, f), number-≤ (rw e at k), rw e (≤ᴸ-refl unlimited))

@@ -1,5 +1,6 @@
 -- What a sweep back over the levels holds: two levels, k + 1 whole and k in part.
 --     byMark m here above                   == what stands at level k, for mark 0; at level k + 1, for another
+--     capAhead g caps above j, setAhead g sets above j == so for the target of template j
 --     Ranked g rank                         == along every mark-0 template the rank grows: sources come first
 --     Whole, From rank r                    == every event; those with a rank of at least r
 --     LevelHolds g cap full k caps sets Done == caps and sets hold the caps and the fully pruned sets of occurrence k of the events of which Done holds
@@ -20,6 +21,12 @@ abbrev pub byMark : {A : Type 0} → ℕ → A → A → A
 byMark zero here above = here
 byMark (suc m) here above = above
 
+abbrev pub capAhead : StartedGraph → (ℕ → Limit) → (ℕ → Limit) → ℕ → Limit
+capAhead g caps above j = byMark (mark (g .graph) j) (caps (target (g .graph) j .0)) (above (target (g .graph) j .0))
+
+abbrev pub setAhead : StartedGraph → (ℕ → List Pair) → (ℕ → List Pair) → ℕ → List Pair
+setAhead g sets above j = byMark (mark (g .graph) j) (sets (target (g .graph) j .0)) (above (target (g .graph) j .0))
+
 abbrev pub Ranked : StartedGraph → (ℕ → ℕ) → Type 0
 Ranked g rank = (j : ℕ) → j < templates (g .graph) → mark (g .graph) j ≡ 0 → rank (source (g .graph) j .0) < rank (target (g .graph) j .0)
 
@@ -29,7 +36,8 @@ Whole u = Unit {0}
 abbrev pub From : (ℕ → ℕ) → ℕ → ℕ → Type 0
 From rank r u = r ≤ rank u
 
-pub record LevelHolds (g : StartedGraph) (cap : ℕ → Limit) (full : ℕ → List Pair) (k : ℕ) (caps : ℕ → Limit) (sets : ℕ → List Pair) (Done : ℕ → Type 0) : Type 0 where
+pub record LevelHolds (g : StartedGraph) (cap : ℕ → Limit) (full : ℕ → List Pair) (k : ℕ)
+    (caps : ℕ → Limit) (sets : ℕ → List Pair) (Done : ℕ → Type 0) : Type 0 where
   pub caps-hold : (u : Event) → u .0 < g .graph .events → Done (u .0) → caps (u .0) ≡ cap (occurrence (g .graph) k u .0)
   pub sets-hold : (u : Event) → u .0 < g .graph .events → Done (u .0) → sets (u .0) ≡ full (occurrence (g .graph) k u .0)
 
