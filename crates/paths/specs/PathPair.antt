@@ -17,7 +17,7 @@ use Rattle.sets.specs.Pair.{Pair, pair, compose, unit}
 use Rattle.sets.specs.Family.{Family, Closes}
 use Rattle.paths.specs.Cap.{Caps}
 
--- report, equation 5: the value at the end of a rule is the lesser of U(source) + D and m(target)
+-- report, equations 4 and 5, with the value U in place of U − m: at the end of a rule stands the lesser of U(source) + D and m(target)
 abbrev pub rulePair : Graph → (ℕ → Limit) → ℕ → Pair
 rulePair g cap i = pair (number (most g i)) (cap (target g i))
 
