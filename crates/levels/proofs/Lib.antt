@@ -9,3 +9,4 @@ pub mod Sizes
 pub mod Verdicts
 pub mod Answers
 pub mod Loops
+pub mod Exists
