@@ -10,3 +10,5 @@ pub mod Verdicts
 pub mod Answers
 pub mod Loops
 pub mod Exists
+pub mod Marks
+pub mod Filling
