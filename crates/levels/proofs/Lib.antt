@@ -12,3 +12,4 @@ pub mod Loops
 pub mod Exists
 pub mod Marks
 pub mod Filling
+pub mod Bridge

@@ -2,3 +2,4 @@
 pub mod Turns
 pub mod Sweep
 pub mod Marks
+pub mod Ways
