@@ -1,10 +1,13 @@
 -- The bridge: paths of the unfolding from one occurrence to another are ways of the process graph, with the same delays and caps.
---     Level, level-of        what caps c by event and crossings left have to do with caps by number: c d x is the cap of occurrence k of x, where k + d is l
+--     Levels g cap c l       caps by event and crossings left, and caps by number: c d x is the cap of occurrence k of x, where k + d is l
+--     Walked, Wayed          a path that has a way's sum and pair, and a way that has a path's
 --     way-path               a way of d crossings is a path from occurrence k of u to occurrence k + d of v, with its sum and its pair
 --     path-way               and back
---     way-m, way-cap         so m and cap of an occurrence are those at its distance from the occurrence of s
+--     root-path, root-way    a path from the root is a start rule and then a way, with its pair
+--     way-m, m-way, way-cap, cap-way   so m and cap of an occurrence are those at its distance from the occurrence of s
 --     way-closes             and a set closes the pairs of its paths exactly where it closes those of its ways
--- Assumes nothing.
+-- No path leads to a lesser occurrence: `no-path-back` of Folds.antt. A long run needs no bridge, since its sweep goes by the rules out of each occurrence; a
+-- guard for ever (request 14) does. Assumes nothing.
 use mathlib.Core.Path.{_≡_, refl, sym, ap, subst, _∙_}
 use mathlib.Core.Logic.{_⊎_, inl, inr, _↔_}
 use mathlib.Core.List.{List}
@@ -12,9 +15,8 @@ use Prim.Native.Nat.{ℕ, suc, _+_, _*_, _<_, _≤_}
 use native.Mathlib.Omega.{arith}
 use lib.IntN.{ℤ, pos, negℤ, _+ℤ_}
 use lib.Signed.{_≤ℤ_}
-use Rattle.integers.proofs.Integer.{linear, sum, negation}
 use Rattle.graphs.specs.Graph as rule
-use Rattle.graphs.specs.Graph.{Graph, rules}
+use Rattle.graphs.specs.Graph.{Graph}
 use Rattle.graphs.specs.Path.{Path, stay, step, leastSum}
 use Rattle.executions.specs.Steps.{M}
 use Rattle.sets.specs.Limit.{Limit, number, unlimited}
@@ -27,12 +29,12 @@ use Rattle.paths.specs.PathPair.{rulePair, pathPair, PathPairs}
 use Rattle.processes.specs.declared.Event.{Event}
 use Rattle.processes.specs.Parts.Checks.{MarkKept}
 use Rattle.processes.specs.Process.{templates, source, target, least, most, mark, occurrence}
-use Rattle.processes.proofs.Occurrences.{event-same, numbers-apart, occurrence-below}
-use Rattle.levels.specs.Started.{StartedGraph, Unfolds}
-use Rattle.levels.specs.Parts.Turns.{ahead}
+use Rattle.processes.proofs.Occurrences.{event-same, numbers-apart, never-root, occurrence-below}
+use Rattle.levels.specs.Started.{StartedGraph, startLeast, startMost, Unfolds}
+use Rattle.levels.specs.Parts.Turns.{ahead, startAhead}
 use Rattle.levels.specs.Parts.Ways.{Way, nothing, within, across, wayLeast, wayPair, WayM, WayCap, at-m, no-m, WayPairs}
-use Rattle.levels.proofs.Sound.{Fit, unfolded-ends}
-use Rattle.levels.proofs.Outgoing.{IsRule, OfTemplate, Given, ByTemplates, occurrence-rules}
+use Rattle.levels.proofs.Sound.{Fit}
+use Rattle.levels.proofs.Outgoing.{IsRule, OfTemplate, Given, occurrence-rules, root-rules}
 
 -- caps by event and crossings left to level l
 pub record Levels (g : StartedGraph) (cap : ℕ → Limit) (c : ℕ → Event → Limit) (l : ℕ) : Type 0 where
@@ -74,13 +76,19 @@ module _ {g : StartedGraph} {K : ℕ} {graph : Graph} (fit : Fit g) (unfolds : U
           let own : rulePair graph cap i ≡ templatePair g c d j =
           ap (λ (x : ℕ). pair (number (rule.most graph i)) (cap x)) (is .enters)
           ∙ ap (λ (x : ℤ). pair (number x) (cap (ahead g k j))) (is .most-is)
-          ∙ ap (λ (x : Limit). pair (number (most (g .graph) j)) x) (levels .level (k + mark (g .graph) j) d (target (g .graph) j) (fit .each .ends j is-template .target-known) there) in
+          ∙ ap (λ (x : Limit). pair (number (most (g .graph) j)) x)
+          (levels .level (k + mark (g .graph) j) d (target (g .graph) j) (fit .each .ends j is-template .target-known) there) in
           record {
             path = step i is-rule leaves (is .enters) (rest .path);
             sum-same = ap (λ (x : ℤ). x +ℤ leastSum (rest .path)) (is .least-is) ∙ ap (λ (x : ℤ). least (g .graph) j +ℤ x) (rest .sum-same);
             pair-same = ap (λ (x : Pair). compose x (pathPair cap (rest .path))) own ∙ ap (compose (templatePair g c d j)) (rest .pair-same);
           }
       by (inr outside) = absurd (let no : ⊥ = omega (arith, known, outside, unfolds .event-count) in no)
+
+  -- a path from an occurrence whose k has two names
+  moved : (x : Event) {k k′ y : ℕ} {low : ℤ} {q : Pair} → k ≡ k′ → Walked graph cap (occurrence (g .graph) k x .0) y low q
+      → Walked graph cap (occurrence (g .graph) k′ x .0) y low q
+  moved x {y = y} {low} {q} e = subst (λ (k : ℕ). Walked graph cap (occurrence (g .graph) k x .0) y low q) e
 
   pub way-path : (k : ℕ) {d : ℕ} {u v : Event} (w : Way g d u v) → k + d ≡ l
       → Walked graph cap (occurrence (g .graph) k u .0) (occurrence (g .graph) l v .0) (wayLeast w) (wayPair c w)
@@ -89,14 +97,22 @@ module _ {g : StartedGraph} {K : ℕ} {graph : Graph} (fit : Fit g) (unfolds : U
       (record { path = stay; sum-same = refl; pair-same = refl })
   way-path k {d} {u} {v} (within j is-template m from w) e =
       let same : k ≡ k + mark (g .graph) j = omega arith in
-      subst (λ (x : Event). Walked graph cap (occurrence (g .graph) k x .0) (occurrence (g .graph) l v .0) (least (g .graph) j +ℤ wayLeast w) (compose (templatePair g c d j) (wayPair c w))) from
+      subst
+      (λ (x : Event).
+      Walked graph cap (occurrence (g .graph) k x .0) (occurrence (g .graph) l v .0) (least (g .graph) j +ℤ wayLeast w)
+      (compose (templatePair g c d j) (wayPair c w)))
+      from
       (in-front k d j is-template (omega arith)
-      (subst (λ (x : ℕ). Walked graph cap (occurrence (g .graph) x (target (g .graph) j) .0) (occurrence (g .graph) l v .0) (wayLeast w) (wayPair c w)) same (way-path k w e)))
+      (moved (target (g .graph) j) same (way-path k w e)))
   way-path k {u = u} {v} (across {d} j is-template m from w) e =
       let same : suc k ≡ k + mark (g .graph) j = omega arith in
-      subst (λ (x : Event). Walked graph cap (occurrence (g .graph) k x .0) (occurrence (g .graph) l v .0) (least (g .graph) j +ℤ wayLeast w) (compose (templatePair g c d j) (wayPair c w))) from
+      subst
+      (λ (x : Event).
+      Walked graph cap (occurrence (g .graph) k x .0) (occurrence (g .graph) l v .0) (least (g .graph) j +ℤ wayLeast w)
+      (compose (templatePair g c d j) (wayPair c w)))
+      from
       (in-front k d j is-template (omega arith)
-      (subst (λ (x : ℕ). Walked graph cap (occurrence (g .graph) x (target (g .graph) j) .0) (occurrence (g .graph) l v .0) (wayLeast w) (wayPair c w)) same (way-path (suc k) w (omega arith))))
+      (moved (target (g .graph) j) same (way-path (suc k) w (omega arith))))
 
   -- ---- and back
 
@@ -144,9 +160,9 @@ module _ {g : StartedGraph} {K : ℕ} {graph : Graph} (fit : Fit g) (unfolds : U
           let (e, found, there) = first-way k is-template from (fit .each .marks j is-template) rest in
           let own : templatePair g c e j ≡ rulePair graph cap i =
           sym (
-            ap (λ (x : ℕ). pair (number (rule.most graph i)) (cap x)) (is .enters)
-            ∙ ap (λ (x : ℤ). pair (number x) (cap (ahead g k j))) (is .most-is)
-            ∙ ap (λ (x : Limit). pair (number (most (g .graph) j)) x) (levels .level (k + mark (g .graph) j) e (target (g .graph) j) known there)
+          ap (λ (x : ℕ). pair (number (rule.most graph i)) (cap x)) (is .enters)
+          ∙ ap (λ (x : ℤ). pair (number x) (cap (ahead g k j))) (is .most-is)
+          ∙ ap (λ (x : Limit). pair (number (most (g .graph) j)) x) (levels .level (k + mark (g .graph) j) e (target (g .graph) j) known there)
           ) in
           record {
             crossings = found .crossings;
@@ -212,7 +228,8 @@ module _ {g : StartedGraph} {K : ℕ} {graph : Graph} (fit : Fit g) (unfolds : U
     cap-way (cap-of.CapOf.at-m x h) = at-m x (m-way x h)
     cap-way (cap-of.CapOf.no-m none) = no-m (λ w. none (sum-path w .0))
 
-  module _ {cap : ℕ → Limit} {c : ℕ → Event → Limit} (levels : Levels g cap c (k + d)) (t v : Event) (ht : t .0 < g .graph .events) (hv : v .0 < g .graph .events) where
+  module _ {cap : ℕ → Limit} {c : ℕ → Event → Limit} (levels : Levels g cap c (k + d))
+      (t v : Event) (ht : t .0 < g .graph .events) (hv : v .0 < g .graph .events) where
     on : (a : ℤ) (b : Limit) → WayPairs g c t d v a b → PathPairs graph cap (occurrence (g .graph) (k + d) t .0) (occurrence (g .graph) k v .0) a b
     on a b (w, e) = let h = way-path fit unfolds levels below k w refl in (h .path, h .pair-same ∙ e)
 
@@ -221,8 +238,62 @@ module _ {g : StartedGraph} {K : ℕ} {graph : Graph} (fit : Fit g) (unfolds : U
         let (w, _, same) = way-at c k d refl (path-way fit unfolds levels below p k v t hv ht refl refl) in
         (w, same ∙ e)
 
-    pub way-closes : {T : List Pair} → Closes T (WayPairs g c t d v) ↔ Closes T (PathPairs graph cap (occurrence (g .graph) (k + d) t .0) (occurrence (g .graph) k v .0))
+    pub way-closes : {T : List Pair}
+        → Closes T (WayPairs g c t d v) ↔ Closes T (PathPairs graph cap (occurrence (g .graph) (k + d) t .0) (occurrence (g .graph) k v .0))
     way-closes = (
       λ h. record { ordered = h .ordered; covers = cover-more on back (h .covers) },
       λ h. record { ordered = h .ordered; covers = cover-more back on (h .covers) },
     )
+
+-- ---- from the root
+
+-- the pair of template j's start rule, and then of a way of l crossings
+abbrev pub startPair : StartedGraph → (ℕ → Event → Limit) → ℕ → ℕ → Pair
+startPair g c l j = pair (number (startMost g j)) (c l (target (g .graph) j))
+
+-- a start rule and then a way of l crossings to v, with pair q
+abbrev pub StartWay : StartedGraph → (ℕ → Event → Limit) → ℕ → Event → Pair → Type 0
+StartWay g c l v q =
+    (j : ℕ) × (j < templates (g .graph)) × (mark (g .graph) j ≡ 1) × (w : Way g l (target (g .graph) j) v) × (q ≡ compose (startPair g c l j) (wayPair c w))
+
+module _ {g : StartedGraph} {K : ℕ} {graph : Graph} (fit : Fit g) (unfolds : Unfolds g K graph)
+    {cap : ℕ → Limit} {c : ℕ → Event → Limit} {l : ℕ} (levels : Levels g cap c l) (below : l < K) where
+  start-same : (i j : ℕ) → j < templates (g .graph) → IsRule graph i (startAhead g j) (startLeast g j) (startMost g j) → rulePair graph cap i ≡ startPair g c l j
+  start-same i j is-template is =
+      ap (λ (x : ℕ). pair (number (rule.most graph i)) (cap x)) (is .enters)
+      ∙ ap (λ (x : ℤ). pair (number x) (cap (startAhead g j))) (is .most-is)
+      ∙ ap (λ (x : Limit). pair (number (startMost g j)) x) (levels .level 0 l (target (g .graph) j) (fit .each .ends j is-template .target-known) (omega arith))
+
+  pub root-path : {v : Event} (j : ℕ) → j < templates (g .graph) → mark (g .graph) j ≡ 1 → (w : Way g l (target (g .graph) j) v)
+      → (p : Path graph 0 (occurrence (g .graph) l v .0)) × (pathPair cap p ≡ compose (startPair g c l j) (wayPair c w))
+  root-path {v} j is-template m w = by (root-rules fit unfolds (omega arith) .back j is-template m)
+    where
+      known : startAhead g j < 1 + g .graph .events * K
+      known = occurrence-below (g .graph) K 0 (target (g .graph) j) (fit .each .ends j is-template .target-known) (omega arith)
+
+      by : Given graph 0 (startAhead g j) (startLeast g j) (startMost g j) ⊎ (graph .events ≤ startAhead g j)
+          → (p : Path graph 0 (occurrence (g .graph) l v .0)) × (pathPair cap p ≡ compose (startPair g c l j) (wayPair c w))
+      by (inl (i, is-rule, leaves, is)) =
+          let h = way-path fit unfolds levels below 0 w (omega arith) in (
+            step i is-rule leaves (is .enters) (h .path),
+            ap (λ (x : Pair). compose x (pathPair cap (h .path))) (start-same i j is-template is) ∙ ap (compose (startPair g c l j)) (h .pair-same),
+          )
+      by (inr outside) = absurd (let no : ⊥ = omega (arith, known, outside, unfolds .event-count) in no)
+
+  pub root-way : {x y : ℕ} (p : Path graph x y) (v : Event) → v .0 < g .graph .events → x ≡ 0 → y ≡ occurrence (g .graph) l v .0
+      → StartWay g c l v (pathPair cap p)
+  root-way stay v hv ex ey = absurd (never-root (g .graph) l v (sym ey ∙ ex))
+  root-way (step i is-rule leaves enters p) v hv ex ey = by (root-rules fit unfolds (omega arith) .out i is-rule (leaves ∙ ex))
+    where
+      by : OfTemplate g graph i (λ j. mark (g .graph) j ≡ 1) (startAhead g) (startLeast g) (startMost g)
+          → StartWay g c l v (compose (rulePair graph cap i) (pathPair cap p))
+      by (j, is-template, m, is) =
+          let (w, _, same) =
+          way-at c 0 l (omega arith)
+          (path-way fit unfolds levels below p 0 (target (g .graph) j) v (fit .each .ends j is-template .target-known) hv (sym enters ∙ is .enters) ey) in (
+            j,
+            is-template,
+            m,
+            w,
+            ap (λ (x : Pair). compose x (pathPair cap p)) (start-same i j is-template is) ∙ ap (compose (startPair g c l j)) (sym same),
+          )

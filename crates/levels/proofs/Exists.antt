@@ -54,7 +54,8 @@ module _ {g : StartedGraph} {K : ℕ} {s : Event} {ks : ℕ} {t : Event} {kt : �
         at u hu (yes below) = short (occurrence (g .graph) k u .0) (occurrence-below (g .graph) K k u hu below)
         at u hu (no n) =
             subst (λ (T : List Pair). length T ≤ 64)
-            (sym (past-set (kept .fit) (kept-unfolds kept) solved (target-event kept) (occurrence (g .graph) k u .0) (past-number (kept .fit) (kept-unfolds kept) k u (omega arith))))
+            (sym (past-set (kept .fit) (kept-unfolds kept) solved (target-event kept) (occurrence (g .graph) k u .0)
+            (past-number (kept .fit) (kept-unfolds kept) k u (omega arith))))
             (omega arith)
 
     answered : ((v : ℕ) × (v < 1 + g .graph .events * K) × (64 < length (full v))) ⊎ ((v : ℕ) → v < 1 + g .graph .events * K → length (full v) ≤ 64)

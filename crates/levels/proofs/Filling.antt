@@ -25,7 +25,6 @@ use native.Mathlib.Omega.{arith}
 use lib.IntN.{ℤ}
 use lib.ListN.{length, getD, set, take, length-take, length-set}
 use lib.Seq.{take-suc, take-set-le, getD-set-same}
-use Rattle.sets.specs.Limit.{Limit}
 use Rattle.sets.specs.Pair.{Pair, pair}
 use Rattle.sets.specs.Set.{_∈_}
 use Rattle.sets.specs.Held.{limit, candidates}
