@@ -13,3 +13,4 @@ pub mod Exists
 pub mod Marks
 pub mod Filling
 pub mod Bridge
+pub mod Stored

@@ -2,6 +2,7 @@
 -- used in its start rule in place of [0, 0]; an entry for another mark is neither read nor checked"; report, section 2.2. Apart from the start intervals
 -- this is specs/Process.antt and specs/Unfolding.antt of the crate processes, with its names.
 --     StartedGraph              == a process graph and two lists: the least and the most start delay of each template
+--     startedOf p …             == that of p events and the seven lists
 --     startLeast g j, startMost g j == the start interval of template j
 --     Instance g k j u v d D    == the rule that template j gives at k: from u to v with delay [d, D]
 --     RuleAt g k j graph i      == rule i of the graph is the instance of template j at k
@@ -14,12 +15,15 @@ use lib.IntN.{ℤ, pos}
 use lib.ListN.{length, getD}
 use Rattle.graphs.specs.Graph as rule
 use Rattle.graphs.specs.Graph.{Graph}
-use Rattle.processes.specs.Process.{ProcessGraph, templates, source, target, least, most, mark, occurrence, Node, root, at, number}
+use Rattle.processes.specs.Process.{ProcessGraph, processOf, templates, source, target, least, most, mark, occurrence, Node, root, at, number}
 
 pub record StartedGraph : Type 0 where
   pub graph : ProcessGraph
   pub start-leasts : List ℤ
   pub start-mosts : List ℤ
+
+abbrev pub startedOf : ℕ → List ℕ → List ℕ → List ℤ → List ℤ → List ℕ → List ℤ → List ℤ → StartedGraph
+startedOf p ss ts ds Ds ms sds sDs = record { graph = processOf p ss ts ds Ds ms; start-leasts = sds; start-mosts = sDs }
 
 abbrev pub startLeast : StartedGraph → ℕ → ℤ
 startLeast g j = getD (g .start-leasts) j (pos 0)

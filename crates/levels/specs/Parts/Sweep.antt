@@ -1,6 +1,8 @@
 -- What a sweep back over the levels holds: two levels, k + 1 whole and k in part.
 --     byMark m here above                   == what stands at level k, for mark 0; at level k + 1, for another
 --     capAhead g caps above j, setAhead g sets above j == so for the target of template j
+--     capsOf ms fs u, setsOf ss u           == the cap and the set of event u, as a level's lists hold them: of each m a number and whether it is unlimited, and
+--                                              a set
 --     Ranked g rank                         == along every mark-0 template the rank grows: sources come first
 --     Whole, From rank r                    == every event; those with a rank of at least r
 --     LevelHolds g cap full k caps sets Done == caps and sets hold the caps and the fully pruned sets of occurrence k of the events of which Done holds
@@ -8,11 +10,16 @@
 --     Swept g cap full rank room k r …      == level k + 1 is held whole, of level k the events with a rank of at least r; and no set found was too large
 -- cap and full are all caps and all sets of the graph unfolded in full, which the sweep does not store. Assumes nothing.
 use mathlib.Core.Path.{_≡_}
+use mathlib.Core.Bool.{Bool, false}
 use mathlib.Core.List.{List}
 use Prim.Native.Nat.{ℕ, zero, suc, _<_, _≤_}
-use lib.ListN.{length}
+use lib.IntN.{ℤ, pos}
+use lib.ListN.{length, getD}
 use Rattle.sets.specs.Limit.{Limit}
 use Rattle.sets.specs.Pair.{Pair}
+use Rattle.sets.specs.Set.{passNothing}
+use Rattle.sets.specs.Held.{limit, pairsOf, held}
+use Rattle.sets.specs.declared.PrunedSet.{PrunedSet}
 use Rattle.processes.specs.declared.Event.{Event}
 use Rattle.processes.specs.Process.{templates, source, target, mark, occurrence}
 use Rattle.levels.specs.Started.{StartedGraph}
@@ -26,6 +33,12 @@ capAhead g caps above j = byMark (mark (g .graph) j) (caps (target (g .graph) j 
 
 abbrev pub setAhead : StartedGraph → (ℕ → List Pair) → (ℕ → List Pair) → ℕ → List Pair
 setAhead g sets above j = byMark (mark (g .graph) j) (sets (target (g .graph) j .0)) (above (target (g .graph) j .0))
+
+abbrev pub capsOf : List ℤ → List Bool → ℕ → Limit
+capsOf ms fs u = limit (getD ms u (pos 0)) (getD fs u false)
+
+abbrev pub setsOf : List PrunedSet → ℕ → List Pair
+setsOf ss u = pairsOf (getD ss u (held passNothing))
 
 abbrev pub Ranked : StartedGraph → (ℕ → ℕ) → Type 0
 Ranked g rank = (j : ℕ) → j < templates (g .graph) → mark (g .graph) j ≡ 0 → rank (source (g .graph) j .0) < rank (target (g .graph) j .0)
