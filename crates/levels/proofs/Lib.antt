@@ -14,3 +14,4 @@ pub mod Marks
 pub mod Filling
 pub mod Bridge
 pub mod Stored
+pub mod Splits
