@@ -1,4 +1,5 @@
 -- Values that follow from those of the sources, event by event: the times of an execution, and U.
+--     Arrives g add finish before v x    x is finish v a, where a is the greatest (value of source + add i) over the rules i into v
 --     Settled g start add finish value   the root has value `start`; every other event v has finish v a, where a is the greatest (value of source + add i)
 --                                        over the rules i into v
 --     values-settle                      a sound graph has such values

@@ -1,4 +1,5 @@
 -- Every choice of delays is an execution's: times follow from the delays taken, event by event, in an order where sources come first.
+--     Follows           times that follow from the delays taken
 --     times-follow      for a sound graph and any delay for each rule there are times with the root at 0 and every other event at the greatest arrival
 -- They are the values that settle where the arrival is left as it is. Assumes nothing.
 use mathlib.Core.Path.{_≡_, sym, subst}

@@ -1,5 +1,5 @@
 -- From what the sweep finds to the answer of a long run.
---     kept-unfolds             where the input is kept, the graph unfolded in full unfolds
+--     kept-unfolds, kept-sound where the input is kept, the graph unfolded in full unfolds, and is sound
 --     source-event, target-event, source-other, target-other   the two occurrences are events of it, and not the root
 --     root-number              the root has an m
 --     root-some                and its set is not empty: t is reachable

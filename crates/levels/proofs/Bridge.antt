@@ -3,7 +3,7 @@
 --     Walked, Wayed          a path that has a way's sum and pair, and a way that has a path's
 --     way-path               a way of d crossings is a path from occurrence k of u to occurrence k + d of v, with its sum and its pair
 --     path-way               and back
---     root-path, root-way    a path from the root is a start rule and then a way, with its pair
+--     startPair, StartWay, root-path, root-way   a path from the root is a start rule and then a way, with its pair
 --     way-m, m-way, way-cap, cap-way   so m and cap of an occurrence are those at its distance from the occurrence of s
 --     way-closes             and a set closes the pairs of its paths exactly where it closes those of its ways
 -- No path leads to a lesser occurrence: `no-path-back` of Folds.antt. A long run needs no bridge, since its sweep goes by the rules out of each occurrence; a

@@ -1,5 +1,6 @@
 -- What a path of the unfolding says of the process graph: along a rule the occurrence never falls.
 --     Folded g k l u v n    what a path of n rules from occurrence k of u to occurrence l of v says of the process graph
+--     instance-enters, place-of, rule-enters   a rule stands in a row, and leads to that occurrence of its template's target
 --     path-folds            it says so of each such path
 --     no-path-back          so no path leads from an occurrence to one with a lesser number k
 --     ends-at-occurrence    a path on which a rule stands ends at an occurrence

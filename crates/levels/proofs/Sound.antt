@@ -2,6 +2,7 @@
 --     Fit g               what is left of a process graph where refusals 2, 3, 5, 6 and 7 do not apply
 --     unfolded-delays     each rule of the unfolding has delays inside
 --     unfolded-ends       and events that exist
+--     template-rule, template-enters   template j at k is a rule, and leads to occurrence k of its target
 --     unfolded-sound      so the unfolding is sound
 -- Why every event is reachable. A template targets its process event, so every event but the root has a rule into it; ranks fall going back along rules, and
 -- so one arrives at the root. Assumes nothing.

@@ -1,6 +1,6 @@
 -- The sweep's steps: level k from level k + 1, event by event, down to the root.
 --     least-same, turn-same     a turn stays where the caps and sets that it reads do
---     levels-above              above the later of the two occurrences nothing is found: no m, and empty sets, none of them too large
+--     levels-above, fits-later  above the later of the two occurrences nothing is found: no m, and empty sets, none of them too large
 --     swept-begun               before the first turn of a level
 --     swept-cap, swept-set      the turn of an event: what it reads is what stands ahead, so it finds the event's cap and candidates for its set
 --     swept-more                one event more

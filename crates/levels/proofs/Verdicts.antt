@@ -1,18 +1,18 @@
 -- The verdict of a long run: its promise fixes the answer, and what is left where no refusal of the input applies.
 --     long-places                       each check of the list has one place
 --     long-unique                       two answers that are allowed are equal
---     InputKept g K …                   what is left where no refusal of the input applies
---     count-miss, templates-miss, copies-miss, ends-miss, intervals-miss, marks-miss, occurrences-miss, cycles-miss, targets-miss
---                                       where what it asks is kept, the refusal applies nowhere
+--     ListsKept g, InputKept g K …      what is left where 22, and where no refusal of the input applies
+--     count-miss, templates-miss, copies-miss, intervals-miss, occurrences-miss, cycles-miss, targets-miss
+--                                       where what it asks is kept, the refusal applies nowhere; of 2 and 7 the crate processes says it
 --     fit-of                            a process graph to which 2, 3, 5, 6 and 7 do not apply is fit to be unfolded
---     input-kept                        so where no refusal of the input applies, all is kept
+--     input-none, input-kept            no refusal of the input applies where all is kept, and only there
 --     long-refused                      a refusal of the input is the verdict
 --     long-overfull                     12 is the verdict where some set has more than 64 pairs
 --     long-answered                     and where none has, the separation is the answer
 -- Assumes nothing.
 use mathlib.Core.Path.{_≡_, refl, sym, subst, _∙_}
 use mathlib.Core.Logic.{_⊎_, inl, inr, ⊎-elim}
-use mathlib.Core.List.{[]}
+use mathlib.Core.List.{[], _∷_}
 use Prim.Native.Nat.{ℕ, zero, suc, _<_, _≤_}
 use native.Mathlib.Decide.{ℕ-discrete, decLt}
 use native.Mathlib.Omega.{arith}
@@ -21,7 +21,7 @@ use lib.ListN.{length}
 use Rattle.sequences.proofs.Below.{below-next}
 use Rattle.sequences.proofs.Lengths.{stable}
 use Rattle.verdicts.specs.Verdict.{check, passed, Accepted, accepted, FirstOf, AtZero, Lowest}
-use Rattle.verdicts.proofs.Verdicts.{OnePlace, OnePlaces, Misses, NoneApplies, lowest-unique, at-zero, at-zero-unique, one-verdict, given-after, none-lowest}
+use Rattle.verdicts.proofs.Verdicts.{OnePlace, OnePlaces, Misses, NoneApplies, lowest-unique, at-zero, at-zero-unique, one-verdict, given-after, front-given, none-lowest}
 use Rattle.graphs.specs.Graph.{Graph, graphOf}
 use Rattle.graphs.specs.Limits.{EndsKept, DelaysKept}
 use Rattle.graphs.specs.Refusal.{OutsideDelays}
@@ -292,6 +292,14 @@ module _ {g : StartedGraph} {K : ℕ} {s : Event} {ks : ℕ} {t : Event} {kt : �
       target-at h (inr n) = absurd (no-4 1 (target-missing h n))
 
   -- ---- the answer
+
+  pub long-refused : {j p : ℕ} → (j ≡ 0 → ⊥) → FirstOf (inputChecks g K s ks t kt) j p → LongAnswered g K s ks t kt j p (pos 0)
+  long-refused {j} {p} some v =
+      record {
+        verdict = front-given (inputChecks g K s ks t kt) (FirstOf (check 12 (AtZero (TooManyPairs g K s ks t kt)) ∷ [])) j p some v;
+        answer = λ e. absurd (some e);
+        refused = λ n. refl;
+      }
 
   pub long-overfull : InputKept g K s ks t kt → TooManyPairs g K s ks t kt → LongAnswered g K s ks t kt 12 0 (pos 0)
   long-overfull kept over =

@@ -3,6 +3,7 @@
 --     TemplatesOutside g            == refusal 22: more than 128 templates, or the lists differ in length
 --     CopiesOutside K               == refusal 24: K is 0, or above 100,000
 --     IntervalOutside g j           == refusal 3: the interval of template j is outside, or, where its mark is 1, its start interval
+--     At g K u k                    == occurrence k of u exists
 --     MissingOccurrence g K …       == refusal 4: the occurrence of s, or that of t, doesn't exist
 --     OnCycle g v                   == refusal 5: process event v lies on a cycle of mark-0 templates
 --     Untargeted g v                == refusal 6: no template targets process event v

@@ -1,5 +1,6 @@
 -- How large the numbers of paths and of their sets can be, from what they mean: each belongs to a path, and a path has fewer rules than there are events.
 --     mostSum-within                  where each most delay lies within b, the sum of a path lies within b times its number of rules
+--     LimitWithin b c, PairWithin b c q   a limit lies within b, if it is a number; l and w of q within b and c
 --     m-within                        m lies within b × n, where there are at most n + 1 events
 --     pair-within                     so does the l of a path's pair, and its w, if it is a number, within twice that
 --     closed-numbered                 a set that covers the pairs of the paths from an event has numbers as its l
