@@ -30,9 +30,10 @@ static void group(size_t n, size_t r, const size_t *key, size_t *start, size_t *
     for (size_t i = r; i-- > 0;) rule[--start[key[i]]] = i;
 }
 
-/* refusals 1 to 4, or 0; that the lists have one length is checked before */
-static struct answer check(const struct graph *g, size_t s, size_t t) {
-    if (g->n < 1 || g->n > EVENTS || g->r > RULES) return refused(1, 0);
+/* refusals 21, 22 and 2 to 4, or 0; `equal` says whether the lists have one length */
+static struct answer check(const struct graph *g, bool equal, size_t s, size_t t) {
+    if (g->n < 1 || g->n > EVENTS) return refused(21, 0);
+    if (g->r > RULES || !equal) return refused(22, 0);
     for (size_t i = 0; i < g->r; i++)
         if (g->source[i] >= g->n || g->target[i] >= g->n) return refused(2, i);
     for (size_t i = 0; i < g->r; i++)
@@ -43,12 +44,25 @@ static struct answer check(const struct graph *g, size_t s, size_t t) {
     return refused(0, 0);
 }
 
-static struct answer separation(const struct graph *g, size_t s, size_t t) {
+/* whether rules lead from v back to v: in_start and in have the rules by target */
+static bool on_cycle(const struct graph *g, const size_t *in_start, const size_t *in, size_t v) {
+    bool seen[EVENTS] = {false};
+    size_t list[EVENTS], end = 0;
+    for (size_t at = 0, w = v;; w = list[at++]) {
+        for (size_t e = in_start[w]; e < in_start[w + 1]; e++) {
+            size_t u = g->source[in[e]];
+            if (!seen[u]) seen[u] = true, list[end++] = u;
+        }
+        if (at == end) return seen[v];
+    }
+}
+
+static struct answer separation(const struct graph *g, bool equal, size_t s, size_t t) {
     size_t out_start[EVENTS + 1], in_start[EVENTS + 1], out[RULES], in[RULES];
     size_t waiting[EVENTS], order[EVENTS], depth[EVENTS];
     bool reached[EVENTS], found[EVENTS];
     int64_t m[EVENTS], latest[EVENTS];
-    struct answer a = check(g, s, t);
+    struct answer a = check(g, equal, s, t);
     if (a.refusal != 0) return a;
 
     size_t n = g->n;
@@ -65,7 +79,11 @@ static struct answer separation(const struct graph *g, size_t s, size_t t) {
             size_t w = g->target[out[e]];
             if (--waiting[w] == 0) order[placed++] = w;
         }
-    if (placed < n) return refused(5, 0);
+    if (placed < n) {
+        size_t v = 0;
+        while (!on_cycle(g, in_start, in, v)) v++;
+        return refused(5, v);
+    }
 
     for (size_t k = 0; k < n; k++) {
         size_t v = order[k];
@@ -119,7 +137,7 @@ int plain_c_separation(size_t n, const size_t *sources, size_t sources_length, c
                        size_t *place, int64_t *separation_found, size_t *source_depth, size_t *target_depth) {
     struct graph g = {n, sources_length, sources, targets, leasts, mosts};
     bool equal = targets_length == g.r && leasts_length == g.r && mosts_length == g.r;
-    struct answer a = equal ? separation(&g, s, t) : refused(1, 0);
+    struct answer a = separation(&g, equal, s, t);
     *place = a.place;
     *separation_found = a.separation;
     *source_depth = a.source_depth;

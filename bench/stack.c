@@ -16,7 +16,7 @@ static _Alignas(4096) unsigned char stack[STACK];
 static size_t sources[RULES], targets[RULES], marks[RULES], out_sources[RULES], out_targets[RULES];
 static int64_t leasts[RULES], mosts[RULES], times[EVENTS], delays[RULES], out_leasts[RULES], out_mosts[RULES];
 static size_t place, source_depth, target_depth, events, rules;
-static int64_t separation;
+static int64_t least, separation;
 static volatile size_t refusal;
 
 /* 1,024 events and 4,096 rules: event v + 1 has rules from events up to three before it */
@@ -26,6 +26,14 @@ static void make_graph(void) {
         sources[i] = targets[i] - 1 - i / (EVENTS - 1) % targets[i];
         leasts[i] = (int64_t)(i * 7 % 1000);
         mosts[i] = 1000 + (int64_t)(i * 13 % 1000);
+    }
+}
+
+/* the same rules with deadlines that can be met: event v at time v */
+static void make_deadlines(void) {
+    for (size_t i = 0; i < RULES; i++) {
+        leasts[i] = (int64_t)(targets[i] - sources[i]) - 1;
+        mosts[i] = (int64_t)(targets[i] - sources[i]) + 1;
     }
 }
 
@@ -55,9 +63,25 @@ static void coarse(void) {
                                  &place, &separation, &source_depth, &target_depth);
 }
 
+static void hard(void) {
+    refusal = crankforest_hard(EVENTS, sources, RULES, targets, RULES, leasts, RULES, mosts, RULES, 500, EVENTS - 1,
+                               &place, &least, &separation, &source_depth, &target_depth);
+}
+
+static void hard_schedule(void) {
+    refusal = crankforest_hard_schedule(EVENTS, sources, RULES, targets, RULES, leasts, RULES, mosts, RULES, 500, EVENTS - 1, times, EVENTS, delays, RULES,
+                                        &place, &least, &separation, &source_depth, &target_depth);
+}
+
 static void unfold(void) {
-    refusal = crankforest_unfold(31, 33, sources, 124, targets, 124, leasts, 124, mosts, 124, marks, 124, out_sources, RULES, out_targets, RULES,
+    refusal = crankforest_unfold(31, 33, sources, 124, targets, 124, leasts, 124, mosts, 124, marks, 124, leasts, 124, mosts, 124, out_sources, RULES, out_targets, RULES,
                                  out_leasts, RULES, out_mosts, RULES, &place, &events, &rules);
+}
+
+static void judge(void) {
+    size_t verdict, event;
+    refusal = crankforest_judge(EVENTS, sources, RULES, targets, RULES, leasts, RULES, mosts, RULES, 500, EVENTS - 1, 0, times, EVENTS, delays, RULES,
+                                &place, &verdict, &event);
 }
 
 #ifdef TEXT
@@ -138,7 +162,11 @@ int main(int argc, char **argv) {
     make_graph();
     row("crankforest_exact", exact);
     row("crankforest_schedule", schedule);
+    row("crankforest_judge", judge);
     row("crankforest_coarse", coarse);
+    make_deadlines();
+    row("crankforest_hard", hard);
+    row("crankforest_hard_schedule", hard_schedule);
     make_process();
     row("crankforest_unfold", unfold);
 #ifdef TEXT

@@ -1,4 +1,4 @@
-/* A C caller of the static library, through include/crankforest.h: 01's figures P1 to P11, and some refusals. With TEXT_ENTRIES defined it calls the two
+/* A C caller of the static library, through include/crankforest.h: 01's figures P1 to P11, hard deadlines, and some refusals. With TEXT_ENTRIES defined it calls the two
  * entries on text too. It prints 'N right, M wrong' and exits with status 1 if any are wrong. */
 #include "crankforest.h"
 
@@ -74,6 +74,46 @@ static struct answer schedule(const struct graph *g, size_t s, size_t t, int64_t
     return a;
 }
 
+struct hard_answer {
+    size_t refusal;
+    size_t place;
+    int64_t least;
+    int64_t most;
+    size_t source_depth;
+    size_t target_depth;
+};
+
+static const struct graph unmeetable = {4, 4, {0, 0, 1, 2}, {1, 2, 3, 3}, {5, 1, 0, 3}, {5, 1, 0, 3}};
+
+static struct hard_answer hard(const struct graph *g, size_t s, size_t t)
+{
+    struct hard_answer a = {99, 99, 99, 99, 99, 99};
+    a.refusal = crankforest_hard(g->n, g->sources, g->r, g->targets, g->r, g->leasts, g->r, g->mosts, g->r, s, t,
+                                 &a.place, &a.least, &a.most, &a.source_depth, &a.target_depth);
+    return a;
+}
+
+static struct hard_answer hard_schedule(const struct graph *g, size_t s, size_t t, int64_t *times, size_t times_length,
+                                        int64_t *delays, size_t delays_length)
+{
+    struct hard_answer a = {99, 99, 99, 99, 99, 99};
+    a.refusal = crankforest_hard_schedule(g->n, g->sources, g->r, g->targets, g->r, g->leasts, g->r, g->mosts, g->r, s, t,
+                                          times, times_length, delays, delays_length,
+                                          &a.place, &a.least, &a.most, &a.source_depth, &a.target_depth);
+    return a;
+}
+
+static void check_hard(const char *name, struct hard_answer got, size_t refusal, int64_t least, int64_t most,
+                       size_t source_depth, size_t target_depth)
+{
+    check(name, (int64_t)got.refusal, (int64_t)refusal);
+    check(name, (int64_t)got.place, 0);
+    check(name, got.least, least);
+    check(name, got.most, most);
+    check(name, (int64_t)got.source_depth, (int64_t)source_depth);
+    check(name, (int64_t)got.target_depth, (int64_t)target_depth);
+}
+
 static void check_answer(const char *name, struct answer got, int64_t separation, size_t source_depth, size_t target_depth)
 {
     check(name, (int64_t)got.refusal, CRANKFOREST_ACCEPTED);
@@ -134,24 +174,59 @@ static void schedule_of_p2(void)
     check_list("P2's delays", delays, due_delays, 5);
 }
 
-static void unfolding_of_p11(void)
+static void unfolding_of_p11(const char *name, const int64_t *starts, const int64_t *due)
 {
     static const size_t sources[] = {0, 0, 1, 1}, targets[] = {0, 1, 0, 1}, marks[] = {1, 0, 1, 1};
     static const int64_t leasts[] = {4, 1, 1, 5}, mosts[] = {10, 1, 1, 20};
-    static const int64_t due[] = {1, 17, 19};
     struct graph g;
     size_t place = 99, room = MOST_RULES;
-    size_t refusal = crankforest_unfold(2, 3, sources, 4, targets, 4, leasts, 4, mosts, 4, marks, 4, g.sources, room, g.targets, room,
-                                        g.leasts, room, g.mosts, room, &place, &g.n, &g.r);
-    check("P11 unfolds", (int64_t)refusal, CRANKFOREST_ACCEPTED);
+    size_t refusal = crankforest_unfold(2, 3, sources, 4, targets, 4, leasts, 4, mosts, 4, marks, 4, starts, 4, starts, 4,
+                                        g.sources, room, g.targets, room, g.leasts, room, g.mosts, room, &place, &g.n, &g.r);
+    check(name, (int64_t)refusal, CRANKFOREST_ACCEPTED);
     check("P11's place", (int64_t)place, 0);
     check("P11's events", (int64_t)g.n, 7);
     check("P11's rules", (int64_t)g.r, 12);
     for (size_t k = 0; k < 3; k++) {
         struct answer a = exact(&g, 1 + 2 * k, 2 + 2 * k);
         check("P11 is accepted", (int64_t)a.refusal, CRANKFOREST_ACCEPTED);
-        check("P11", a.separation, due[k]);
+        check(name, a.separation, due[k]);
     }
+}
+
+/* 02's figure: the start interval [21, 21] on b to b */
+static void unfoldings_of_figure_1(void)
+{
+    static const int64_t zero[] = {0, 0, 0, 0}, started[] = {0, 0, 0, 21};
+    static const int64_t due[] = {1, 17, 19}, due_started[] = {21, 19, 19};
+    unfolding_of_p11("P11", zero, due);
+    unfolding_of_p11("P11 with a start interval", started, due_started);
+}
+
+/* ---- claims */
+
+static void check_judged(const char *name, const struct graph *g, size_t s, size_t t, int64_t claimed, const int64_t *times, size_t times_length,
+                         const int64_t *delays, size_t refusal, size_t verdict, size_t event)
+{
+    size_t place = 99, said = 99, named = 99;
+    size_t number = crankforest_judge(g->n, g->sources, g->r, g->targets, g->r, g->leasts, g->r, g->mosts, g->r, s, t, claimed,
+                                      times, times_length, delays, g->r, &place, &said, &named);
+    check(name, (int64_t)number, (int64_t)refusal);
+    check(name, (int64_t)place, 0);
+    check(name, (int64_t)said, (int64_t)verdict);
+    check(name, (int64_t)named, (int64_t)event);
+}
+
+static void claims(void)
+{
+    static const int64_t times[] = {0, 5, 1, 5, 5}, delays[] = {5, 1, 0, 0}, late[] = {0, 5, 1, 6};
+    static const struct graph two = {3, 2, {0, 2}, {2, 1}, {0, 0}, {0, 1}};
+    static const int64_t ends[] = {0, INT64_MIN, INT64_MAX}, ticks[] = {0, 1};
+    check_judged("a claim of the maximum", &fork_graph, 2, 3, 4, times, 4, delays, CRANKFOREST_ACCEPTED, CRANKFOREST_MAXIMUM, 0);
+    check_judged("a claim below it", &fork_graph, 3, 2, -4, times, 4, delays, CRANKFOREST_ACCEPTED, CRANKFOREST_BELOW, 0);
+    check_judged("a claim of another number", &fork_graph, 2, 3, 3, times, 4, delays, CRANKFOREST_ACCEPTED, CRANKFOREST_DIFFERS, 0);
+    check_judged("a claim that is broken", &fork_graph, 2, 3, 5, late, 4, delays, CRANKFOREST_ACCEPTED, CRANKFOREST_BROKEN, 3);
+    check_judged("a sum that doesn't wrap", &two, 0, 1, 0, ends, 3, ticks, CRANKFOREST_ACCEPTED, CRANKFOREST_BROKEN, 1);
+    check_judged("a list that is too long", &fork_graph, 2, 3, 4, times, 5, delays, CRANKFOREST_RULES, 0, 0);
 }
 
 /* ---- refusals */
@@ -160,7 +235,7 @@ static void refusals_of_the_analysis(void)
 {
     struct graph g = row;
     g.n = 1025;
-    check_refused("1,025 events", exact(&g, 2, 3), CRANKFOREST_COUNTS, 0);
+    check_refused("1,025 events", exact(&g, 2, 3), CRANKFOREST_EVENTS, 0);
     g.n = 3;
     check_refused("an unknown event", exact(&g, 2, 1), CRANKFOREST_EVENT, 2);
     g = row;
@@ -170,7 +245,7 @@ static void refusals_of_the_analysis(void)
     check_refused("no such t", exact(&row, 3, SIZE_MAX), CRANKFOREST_QUESTION, 1);
     g = row;
     g.targets[2] = 1;
-    check_refused("a self rule and an unreached event", exact(&g, 2, 3), CRANKFOREST_CYCLE, 0);
+    check_refused("a self rule and an unreached event", exact(&g, 2, 3), CRANKFOREST_CYCLE, 1);
     g = row;
     g.r = 2;
     check_refused("an unreached event", exact(&g, 2, 3), CRANKFOREST_UNREACHED, 3);
@@ -185,14 +260,14 @@ static void lists_that_are_wrong(void)
     struct answer a = {99, 99, 99, 99, 99};
     hold(times, 4);
     hold(delays, 4);
-    check_refused("a short list of times", schedule(&row, 2, 3, times, 3, delays, 3), CRANKFOREST_COUNTS, 0);
-    check_refused("a short list of delays", schedule(&row, 2, 3, times, 4, delays, 2), CRANKFOREST_COUNTS, 0);
+    check_refused("a short list of times", schedule(&row, 2, 3, times, 3, delays, 3), CRANKFOREST_SHORT, 0);
+    check_refused("a short list of delays", schedule(&row, 2, 3, times, 4, delays, 2), CRANKFOREST_SHORT, 0);
     check_refused("no such t, with a schedule", schedule(&row, 2, 4, times, 4, delays, 4), CRANKFOREST_QUESTION, 1);
     check_list("times that are kept", times, kept, 4);
     check_list("delays that are kept", delays, kept, 4);
     a.refusal = crankforest_exact(4, row.sources, 3, row.targets, 3, row.leasts, 2, row.mosts, 3, 2, 3, &a.place, &a.separation,
                                   &a.source_depth, &a.target_depth);
-    check_refused("lists of different length", a, CRANKFOREST_COUNTS, 0);
+    check_refused("lists of different length", a, CRANKFOREST_RULES, 0);
     a.refusal = crankforest_exact(1, NULL, 0, NULL, 0, NULL, 0, NULL, 0, 0, 0, &a.place, &a.separation, &a.source_depth, &a.target_depth);
     check_answer("no rules, and NULL for the lists", a, 0, 0, 0);
 }
@@ -204,17 +279,39 @@ static void refusals_of_the_unfolding(void)
     static const size_t marks[] = {2};
     size_t out_sources[1] = {77}, out_targets[1] = {77}, place = 99, events = 99, rules = 99;
     int64_t out_leasts[1] = {77}, out_mosts[1] = {77};
-    size_t refusal = crankforest_unfold(1, 1, source, 1, target, 1, delay, 1, delay, 1, marks, 1, out_sources, 1, out_targets, 1,
+    size_t refusal = crankforest_unfold(1, 1, source, 1, target, 1, delay, 1, delay, 1, marks, 1, delay, 1, delay, 1, out_sources, 1, out_targets, 1,
                                         out_leasts, 1, out_mosts, 1, &place, &events, &rules);
     check("a mark of 2", (int64_t)refusal, CRANKFOREST_MARK);
     check("a mark of 2, place", (int64_t)place, 0);
     check("a mark of 2, events", (int64_t)events, 0);
     check("a mark of 2, rules", (int64_t)rules, 0);
     check("a mark of 2, a list", (int64_t)out_sources[0], 77);
-    refusal = crankforest_unfold(SIZE_MAX, 2, source, 1, target, 1, delay, 1, delay, 1, marks, 1, out_sources, 1, out_targets, 1,
+    refusal = crankforest_unfold(SIZE_MAX, 2, source, 1, target, 1, delay, 1, delay, 1, marks, 1, delay, 1, delay, 1, out_sources, 1, out_targets, 1,
                                  out_leasts, 1, out_mosts, 1, &place, &events, &rules);
-    check("a product that is too large", (int64_t)refusal, CRANKFOREST_COUNTS);
+    check("too many process events", (int64_t)refusal, CRANKFOREST_EVENTS);
+    refusal = crankforest_unfold(1, SIZE_MAX, source, 1, target, 1, delay, 1, delay, 1, marks, 1, delay, 1, delay, 1, out_sources, 1, out_targets, 1,
+                                 out_leasts, 1, out_mosts, 1, &place, &events, &rules);
+    check("too many copies", (int64_t)refusal, CRANKFOREST_COPIES);
     check("lists of the unfolding that are kept", (int64_t)out_targets[0] + out_leasts[0] + out_mosts[0], 3 * 77);
+}
+
+static void hard_deadlines(void)
+{
+    static const int64_t due_times[] = {0, 3, 3, 3, HELD};
+    static const int64_t due_delays[] = {3, 3, 0, 0, HELD};
+    static const int64_t kept[] = {HELD, HELD, HELD, HELD, HELD};
+    int64_t times[5], delays[5];
+    hold(times, 5);
+    hold(delays, 5);
+    check_hard("the fork under hard deadlines", hard(&fork_graph, 0, 3), CRANKFOREST_ACCEPTED, 2, 3, 0, 2);
+    check_hard("no times meet all rules", hard(&unmeetable, 0, 0), CRANKFOREST_DEADLINES, 0, 0, 0, 0);
+    check_hard("no times, with a schedule", hard_schedule(&unmeetable, 0, 3, times, 5, delays, 5), CRANKFOREST_DEADLINES, 0, 0, 0, 0);
+    check_list("times that 10 keeps", times, kept, 5);
+    check_list("delays that 10 keeps", delays, kept, 5);
+    check_hard("the fork with its schedule", hard_schedule(&fork_graph, 0, 3, times, 5, delays, 5), CRANKFOREST_ACCEPTED, 2, 3, 0, 2);
+    check_list("the fork's times", times, due_times, 5);
+    check_list("the fork's delays", delays, due_delays, 5);
+    check_hard("a short list of delays", hard_schedule(&fork_graph, 0, 3, times, 5, delays, 3), CRANKFOREST_SHORT, 0, 0, 0, 0);
 }
 
 /* ---- text */
@@ -240,7 +337,7 @@ static void entries_on_text(void)
     check("the pairs of the row", memcmp(out, due, strlen(due)), 0);
     place = bytes = 99;
     refusal = crankforest_pairs(NULL, 0, out, sizeof out - 1, &place, &bytes);
-    check("a list too short for the pairs", (int64_t)refusal, CRANKFOREST_COUNTS);
+    check("a list too short for the pairs", (int64_t)refusal, CRANKFOREST_SHORT);
     check("a list too short for the pairs, place", (int64_t)place, 0);
     check("a list too short for the pairs, bytes", (int64_t)bytes, 0);
     check("a list too short for the pairs is kept", memcmp(out, due, strlen(due)), 0);
@@ -261,10 +358,12 @@ int main(void)
 {
     figures_of_the_analysis();
     schedule_of_p2();
-    unfolding_of_p11();
+    unfoldings_of_figure_1();
+    claims();
     refusals_of_the_analysis();
     lists_that_are_wrong();
     refusals_of_the_unfolding();
+    hard_deadlines();
 #ifdef TEXT_ENTRIES
     entries_on_text();
 #endif

@@ -6,6 +6,8 @@
 //!     crankforest-bench text                        writes the text of the text table
 //!
 //! ROUNDS and MILLISECONDS in the environment say how often each is timed (default 15) and how long each time at least (default 50).
+mod claims;
+mod deadlines;
 mod engines;
 mod graphs;
 mod plain;
@@ -125,6 +127,8 @@ fn main() {
         [] => {
             let effort = Effort::of_environment();
             analysis_table(&effort);
+            claims::table(&effort);
+            deadlines::table(&effort);
             #[cfg(feature = "text")]
             texts::table(&effort);
         }

@@ -32,13 +32,16 @@ fn refuse<T>(number: usize, place: usize) -> Result<T, Refusal> {
     Err(Refusal { number, place })
 }
 
-/// Refusals 1 to 4.
+/// Refusals 21, 22 and 2 to 4.
 fn check(graph: &Graph, s: usize, t: usize) -> Result<(), Refusal> {
     let Graph { n, sources, targets, leasts, mosts } = *graph;
     let rules = sources.len();
     let equal = targets.len() == rules && leasts.len() == rules && mosts.len() == rules;
-    if !(1..=EVENTS).contains(&n) || rules > RULES || !equal {
-        return refuse(1, 0);
+    if !(1..=EVENTS).contains(&n) {
+        return refuse(21, 0);
+    }
+    if rules > RULES || !equal {
+        return refuse(22, 0);
     }
     if let Some(i) = sources.iter().zip(targets).position(|(&u, &w)| u >= n || w >= n) {
         return refuse(2, i);
@@ -68,6 +71,30 @@ fn group(keys: &[usize], starts: &mut [usize], rules: &mut [usize]) {
     for (i, &key) in keys.iter().enumerate().rev() {
         starts[key] -= 1;
         rules[starts[key]] = i;
+    }
+}
+
+/// Whether rules lead from v back to v. `into` has the rules into an event.
+fn on_cycle<'a>(v: usize, sources: &[usize], into: impl Fn(usize) -> &'a [usize]) -> bool {
+    let mut seen = [false; EVENTS];
+    let mut list = [0; EVENTS];
+    let mut end = 0;
+    let mut at = 0;
+    let mut here = v;
+    loop {
+        for &i in into(here) {
+            let u = sources[i];
+            if !seen[u] {
+                seen[u] = true;
+                list[end] = u;
+                end += 1;
+            }
+        }
+        if at == end {
+            return seen[v];
+        }
+        here = list[at];
+        at += 1;
     }
 }
 
@@ -108,7 +135,8 @@ pub fn analyse(graph: &Graph, s: usize, t: usize, latest: &mut [i64]) -> Result<
         next += 1;
     }
     if placed < n {
-        return refuse(5, 0);
+        let lowest = (0..n).find(|&v| on_cycle(v, sources, into)).expect("there is a cycle");
+        return refuse(5, lowest);
     }
     let order = &order[..n];
 

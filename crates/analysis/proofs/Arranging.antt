@@ -3,27 +3,32 @@
 --     sized-ends          the sources and the targets of a graph whose events are known are below n
 --     sized-up            a graph whose delays lie within 1,000,000 may be analysed
 --     arranged-acyclic    a graph whose events are in order has no cycle
+--     lowest-on           where there is a cycle, the search finds the lowest event on one
 --     path-5, path-6, path-0    refusals 5 and 6, and that neither applies
 --     path-refused        refusal 5 or 6 is what the passes answer
 --     path-computed       and so is what they computed
 -- Assumes nothing.
 use mathlib.Core.Path.{_≡_, refl, sym, subst, subst₂}
-use mathlib.Core.List.{List}
+use mathlib.Core.List.{List, []}
 use Prim.Native.Nat.{ℕ, _<_, _≤_}
+use native.Mathlib.Decide.{decLt}
 use native.Mathlib.Omega.{arith}
 use lib.IntN.{ℤ}
 use lib.ListN.{length, getD}
 use Rattle.integers.proofs.Word.{within-wider}
 use Rattle.graphs.specs.Graph.{Graph, graphOf}
-use Rattle.graphs.specs.Path.{HasCycle, Reachable}
+use Rattle.graphs.specs.Path.{OnCycle, HasCycle, Reachable}
 use Rattle.graphs.specs.Refusal.{Unreached, pathChecks}
-use Rattle.verdicts.specs.Verdict.{given, passed, FirstOf, Lowest}
+use Rattle.verdicts.specs.Verdict.{given, passed, FirstOf, Lowest, LowestOr}
 use Rattle.verdicts.proofs.Verdicts.{none-accepted}
+use Rattle.verdicts.proofs.Searches.{lowest-bad, all-good}
 use Rattle.graphs.proofs.Refusals.{cycle-misses, path-none}
 use Rattle.graphs.specs.Limits.{Sized}
 use Rattle.graphs.proofs.Paths.{ranked-acyclic}
+use Rattle.graphs.proofs.Cycle.{leaves-below}
 use Rattle.analysis.specs.declared.Analysis.{Analysis}
 use Rattle.analysis.specs.Parts.Passes.{EndsBelow}
+use Rattle.analysis.specs.Parts.Cycles.{LiesOn, LiesOff}
 use Rattle.analysis.specs.Parts.Arranged.{Arranged, Computed, PathsAnalysed}
 
 pub ends-wider : {n m : ℕ} {keys : List ℕ} → n ≤ m → EndsBelow n keys → EndsBelow m keys
@@ -54,9 +59,22 @@ arranged-acyclic a = ranked-acyclic (a .rank) (a .ordered .sources-first)
 
 -- ---- refusals 5 and 6
 
+-- where there is a cycle, the search finds the lowest event on one: an event on a cycle is one of the n
+pub lowest-on : {n : ℕ} {ss ts : List ℕ} {r : ℕ} → EndsBelow n ss → ((ds Ds : List ℤ) → HasCycle (graphOf n ss ts ds Ds)) → LowestOr n (LiesOff ss ts) (LiesOn ss ts) r →
+    (r < n) × ((ds Ds : List ℤ) → Lowest (OnCycle (graphOf n ss ts ds Ds)) r)
+lowest-on {n} {ss} {ts} {r} below cyclic found =
+    let l : r < n = stops (decLt r n) in
+    (l, λ ds Ds. lowest-bad (OnCycle (graphOf n ss ts ds Ds)) (λ i _ off. off n ds Ds) (λ i _ on. on n ds Ds) found l)
+  where
+    stops : Dec (r < n) → r < n
+    stops (yes l) = l
+    stops (no l) =
+        let (v, (p, some)) = cyclic [] [] in
+        absurd (all-good found (omega arith) v (leaves-below (below .below) p some) n [] [] (p, some))
+
 module _ {g : Graph} where
-  pub path-5 : HasCycle g → FirstOf (pathChecks g) 5 0
-  path-5 h = given (record { zero-place = refl; holds = h })
+  pub path-5 : {p : ℕ} → Lowest (OnCycle g) p → FirstOf (pathChecks g) 5 p
+  path-5 h = given h
 
   pub path-6 : (HasCycle g → ⊥) → {p : ℕ} → Lowest (Unreached g) p → FirstOf (pathChecks g) 6 p
   path-6 acyclic h = passed (cycle-misses acyclic) (given h)

@@ -7,5 +7,7 @@ pub mod Searches
 pub mod Targets
 pub mod MPass
 pub mod Placement
+pub mod Marking
+pub mod Searching
 pub mod Arranging
 pub mod Promises

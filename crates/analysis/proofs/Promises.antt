@@ -1,11 +1,10 @@
 -- The promise of the analysis, put together from what its parts promise, and that it fixes the result: two results allowed for one input are equal.
 --     analysed-refused    a refusal leaves the list as it was
---     analysed-input      so does one of the refusals 1 to 4
+--     analysed-counts, analysed-short, analysed-input    so does refusal 21 or 22, 23, and one of those that speak of what is handed in
 --     analysed-paths      where the question is kept, what the passes answer is the answer
 --     analyse-unique      two results of `analyse` are equal, the list included
 -- Assumes nothing.
 use mathlib.Core.Path.{_≡_, refl, sym, subst₂, _∙_}
-use mathlib.Core.Logic.{inr}
 use mathlib.Core.List.{List}
 use Prim.Native.Nat.{ℕ, _<_}
 use native.Mathlib.Decide.{ℕ-discrete}
@@ -14,15 +13,17 @@ use lib.IntN.{ℤ, pos}
 use Rattle.graphs.proofs.Limits.{sound-of}
 use lib.ListN.{length}
 use Rattle.sequences.proofs.Same.{same-places}
-use Rattle.verdicts.specs.Verdict.{given, FirstOf}
-use Rattle.verdicts.proofs.Verdicts.{then-unique, one-verdict, front-given, then-alike, passed-all}
+use Rattle.verdicts.specs.Verdict.{given, passed, FirstOf}
+use Rattle.verdicts.proofs.Verdicts.{at-zero, then-unique, one-verdict, front-given, then-alike, passed-all}
 use Rattle.graphs.specs.Graph.{Graph}
-use Rattle.graphs.specs.Refusal.{questionChecksTo, pathChecks}
-use Rattle.graphs.proofs.Refusals.{question-places, path-places, short-alike}
+use Rattle.graphs.specs.Refusal.{countChecks, questionChecksTo, pathChecks}
+use Rattle.graphs.specs.Limits.{CountsKept}
+use Rattle.graphs.proofs.Refusals.{events-miss, rules-miss, question-places, path-places, short-alike}
 use Rattle.graphs.proofs.Unique.{depth-unique}
 use Rattle.executions.proofs.Unique.{u-unique}
 use Rattle.refusals.specs.Question.{delayLimit}
 use Rattle.refusals.proofs.Question.{QuestionKept, kept-none}
+use Rattle.refusals.proofs.Counts.{counts-given}
 use Rattle.analysis.specs.declared.Analysis.{Analysis}
 use Rattle.analysis.specs.Promise.{AnalysisVerdict, AnalysisFound, Analysed}
 use Rattle.analysis.specs.Parts.Arranged.{PathsAnalysed}
@@ -42,8 +43,12 @@ module _ {limit : ℕ} {g : Graph} {s t : ℕ} {us : List ℤ} {a : Analysis} wh
         same-length = refl;
       }
 
-  pub analysed-short : Refused 1 0 a → length us < g .events → Analysed limit g s t us us a
-  analysed-short r l = analysed-refused 1 0 (λ e. let none : ⊥ = omega arith in none) r (given (record { zero-place = refl; holds = inr l }))
+  pub analysed-counts : (k : ℕ) → (k ≡ 0 → ⊥) → Refused k 0 a → FirstOf (countChecks 1024 4096 g) k 0 → Analysed limit g s t us us a
+  analysed-counts k some r v = analysed-refused k 0 some r (counts-given _ some v)
+
+  pub analysed-short : Refused 23 0 a → CountsKept g → length us < g .events → Analysed limit g s t us us a
+  analysed-short r counts l =
+      analysed-refused 23 0 (λ e. let none : ⊥ = omega arith in none) r (passed (events-miss counts) (passed (rules-miss counts) (given (at-zero l))))
 
   pub analysed-input : (length us < g .events → ⊥) → (k p : ℕ) → (k ≡ 0 → ⊥) → Refused k p a → FirstOf (questionChecksTo (delayLimit limit) g s t ⊥) k p → Analysed limit g s t us us a
   analysed-input room k p some r v =

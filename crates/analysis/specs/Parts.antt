@@ -6,4 +6,5 @@ pub mod Placing
 pub mod Deepest
 pub mod Targets
 pub mod Arrival
+pub mod Cycles
 pub mod Arranged

@@ -1,6 +1,6 @@
--- The promise of the analysis: the refusals 1 to 6 of a question, or U of every event and the depths of both ends. Document 01, sections "Executions",
+-- The promise of the analysis: the refusals of a question, or U of every event and the depths of both ends. Document 01, sections "Executions",
 -- "Steps" and "Refusal numbers".
---     AnalysisVerdict limit g s t Short == the refusals 1 to 6, in 01's order; Short says when the lent list is too short
+--     AnalysisVerdict limit g s t Short == the refusals 21, 22, 23 and 2 to 6, in 01's order; Short says when the lent list is too short
 --     AnalysisFound b g s t us₀ us a    == what an answer that is no refusal holds: the lent list, which held us₀, holds U, and a the depths
 --     Analysed limit g s t us₀ us a     == the answer, and what the lent list holds after
 -- `delayLimit` is in refusals/specs/Question.antt: delays go up to the limit that the caller names, and never beyond 1,001,000. 2,050,048,000 is
@@ -20,7 +20,7 @@ use Rattle.refusals.specs.Question.{delayLimit}
 use Rattle.executions.specs.Steps.{U}
 use Rattle.analysis.specs.declared.Analysis.{Analysis}
 
--- "analysis 1, 2, 3, 4, … 5, 6"
+-- "analysis 1, 2, 3, 4, … 5, 6"; 02, wish 3: "21, 22, 24, 23 where 1 stood"
 abbrev pub AnalysisVerdict : ℕ → Graph → ℕ → ℕ → Type 0 → ℕ → ℕ → Type 0
 AnalysisVerdict limit g s t Short = FirstThen (questionChecksTo (delayLimit limit) g s t Short) (FirstOf (pathChecks g))
 

@@ -1,22 +1,23 @@
 // The analysis of a graph whose counts, events and delays are right: an order of the events, then one pass on for depths, one back for m and one on
 // for U.
 //     analyse_kept       the whole of it
-//     arrange            the rules chained by source and by target, and the order
+//     arrange            the rules chained by source and by target, and the order, or the lowest event on a cycle
 //     analyse_arranged   the passes
 //     find_latest        those for m and U
 ghost use mathlib.Core.Path.{_≡_};
-ghost use mathlib.Core.Bool.{true, false};
 ghost use mathlib.Core.List.{List};
 ghost use Prim.Native.Nat.{ℕ, _<_, _≤_};
 ghost use lib.IntN.{ℤ};
 ghost use lib.ListN.{length, replicate};
 ghost use Rattle.graphs.specs.Graph.{graphOf};
-ghost use Rattle.graphs.specs.Path.{HasCycle};
+ghost use Rattle.graphs.specs.Path.{OnCycle};
 ghost use Rattle.graphs.specs.Limits.{Sized, EventGraph};
+ghost use Rattle.verdicts.specs.Verdict.{Lowest};
 ghost use Rattle.analysis.specs.Parts.Passes.{EndsBelow};
 ghost use Rattle.analysis.specs.Parts.Arranged.{Arranged, LatestFound, PathsAnalysed};
 use crate::Analysis;
 use crate::chains::chain;
+use crate::cycles::lowest_on_cycle;
 use crate::depths::find_depths;
 use crate::latest::find_u;
 use crate::order::order_events;
@@ -75,7 +76,7 @@ fn find_latest(
     );
 }
 
-// Chains the rules by source and by target, and orders the events. False where the graph has a cycle.
+// Chains the rules by source and by target, and orders the events. The answer is n, or where the graph has a cycle the lowest event that lies on one.
 fn arrange(
     n: usize,
     sources: &[usize],
@@ -85,17 +86,20 @@ fn arrange(
     heads_in: &mut [u16],
     nexts_in: &mut [u16],
     order: &mut [usize],
-) -> bool
+) -> usize
     requires { ⌜ (1 ≤ n) × (n ≤ 1024) × (length (now sources) ≤ 4096) × (length (now targets) ≡ length (now sources)) ⌝ }
     requires { ⌜ EndsBelow n (now sources) × EndsBelow n (now targets) ⌝ }
     requires { ⌜ (now «heads_out» ≡ replicate 1024 0) × (length (now «nexts_out») ≡ 4096) ⌝ }
     requires { ⌜ (now «heads_in» ≡ replicate 1024 0) × (length (now «nexts_in») ≡ 4096) × (length (now order) ≡ 1024) ⌝ }
-    ensures { λ r. ⌜ (r ≡ true → Arranged n (now (sources .entry)) (now (targets .entry)) (now («heads_out» .exit)) (now («nexts_out» .exit)) (now («heads_in» .exit)) (now («nexts_in» .exit)) (now (order .exit))) ⌝ }
-    ensures { λ r. ⌜ (r ≡ false → (ds Ds : List ℤ) → HasCycle (graphOf n (now (sources .entry)) (now (targets .entry)) ds Ds)) ⌝ }
+    ensures { λ r. ⌜ (n ≤ r → Arranged n (now (sources .entry)) (now (targets .entry)) (now («heads_out» .exit)) (now («nexts_out» .exit)) (now («heads_in» .exit)) (now («nexts_in» .exit)) (now (order .exit))) ⌝ }
+    ensures { λ r. ⌜ (r < n → (ds Ds : List ℤ) → Lowest (OnCycle (graphOf n (now (sources .entry)) (now (targets .entry)) ds Ds)) r) ⌝ }
 {
     chain(sources, heads_out, nexts_out);
     chain(targets, heads_in, nexts_in);
-    order_events(n, sources, targets, heads_out, nexts_out, order)
+    if order_events(n, sources, targets, heads_out, nexts_out, order) {
+        return n;
+    }
+    lowest_on_cycle(n, sources, targets, heads_in, nexts_in)
 }
 
 // Refusal 6, or both depths; then `latest` holds U of every event.
@@ -177,7 +181,7 @@ pub(crate) fn analyse_kept(
     let mut heads_in = [0u16; 1024];
     let mut nexts_in = [0u16; 4096];
     let mut order = [0usize; 1024];
-    if !arrange(
+    let lowest = arrange(
         n,
         sources,
         targets,
@@ -186,8 +190,9 @@ pub(crate) fn analyse_kept(
         &mut heads_in,
         &mut nexts_in,
         &mut order,
-    ) {
-        return refused(5, 0);
+    );
+    if lowest < n {
+        return refused(5, lowest);
     }
     analyse_arranged(
         n,

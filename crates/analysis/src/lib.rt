@@ -7,6 +7,7 @@ ghost use Rattle.analysis.specs.Promise.{Analysed};
 
 mod arranged;
 mod chains;
+mod cycles;
 mod depths;
 mod latest;
 mod order;
@@ -50,8 +51,12 @@ pub fn analyse(
 ) -> Analysis
     ensures { λ r. ⌜ Analysed limit (graphOf n (now (sources .entry)) (now (targets .entry)) (now (leasts .entry)) (now (mosts .entry))) s t (now (latest .entry)) (now (latest .exit)) r ⌝ }
 {
+    let counts = refusals::check_counts(1024, 4096, n, sources, targets, leasts, mosts);
+    if counts != 0 {
+        return refused(counts, 0);
+    }
     if latest.len() < n {
-        return refused(1, 0);
+        return refused(23, 0);
     }
     let input = refusals::check_input(n, sources, targets, leasts, mosts, limit, s, t);
     if input.number != 0 {

@@ -5,7 +5,10 @@
 //     crankforest_exact       the separation of two events of a graph
 //     crankforest_schedule    the same, with the whole latest schedule
 //     crankforest_coarse      the separation with delays rounded outward to steps of q
+//     crankforest_hard        the separation where every rule's delays are deadlines of their own
+//     crankforest_hard_schedule    the same, with the schedule
 //     crankforest_unfold      the event graph of a process graph
+//     crankforest_judge       the judgement on a claimed gap with its times and delays
 // The promises are those of the functions; specs/Entries.antt says which values the entry's numbers stand for.
 ghost use Rattle.text.specs.Answers.{Entered};
 ghost use Rattle.text.specs.Output.{PairsWritten};
@@ -13,11 +16,17 @@ ghost use Rattle.crankforest.specs.Entries.{pairsAnswerOf};
 
 mod coarse;
 mod exact;
+mod hard;
+mod hard_latest;
+mod judging;
 mod latest;
 mod unfolding;
 
 pub use coarse::crankforest_coarse;
 pub use exact::crankforest_exact;
+pub use hard::crankforest_hard;
+pub use hard_latest::crankforest_hard_schedule;
+pub use judging::crankforest_judge;
 pub use latest::crankforest_schedule;
 pub use unfolding::crankforest_unfold;
 

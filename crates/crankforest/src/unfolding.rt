@@ -13,6 +13,8 @@ pub extern "C" fn crankforest_unfold(
     leasts: &[i64],
     mosts: &[i64],
     marks: &[usize],
+    start_leasts: &[i64],
+    start_mosts: &[i64],
     out_sources: &mut [usize],
     out_targets: &mut [usize],
     out_leasts: &mut [i64],
@@ -21,8 +23,8 @@ pub extern "C" fn crankforest_unfold(
     events: &mut usize,
     rules: &mut usize,
 ) -> usize
-    ensures { λ r. ⌜ UnfoldingAnswered (processOf p (now (sources .entry)) (now (targets .entry)) (now (leasts .entry)) (now (mosts .entry)) (now (marks .entry))) copies (ShortRuleLists (processOf p (now (sources .entry)) (now (targets .entry)) (now (leasts .entry)) (now (mosts .entry)) (now (marks .entry))) copies (now («out_sources» .entry)) (now («out_targets» .entry)) (now («out_leasts» .entry)) (now («out_mosts» .entry))) (unfoldedOf r (now (place .exit)) (now (events .exit)) (now (rules .exit))) ⌝ }
-    ensures { λ r. ⌜ UnfoldingWritten (processOf p (now (sources .entry)) (now (targets .entry)) (now (leasts .entry)) (now (mosts .entry)) (now (marks .entry))) copies (unfoldedOf r (now (place .exit)) (now (events .exit)) (now (rules .exit))) (now («out_sources» .entry)) (now («out_targets» .entry)) (now («out_leasts» .entry)) (now («out_mosts» .entry)) (now («out_sources» .exit)) (now («out_targets» .exit)) (now («out_leasts» .exit)) (now («out_mosts» .exit)) ⌝ }
+    ensures { λ r. ⌜ UnfoldingAnswered (processOf p (now (sources .entry)) (now (targets .entry)) (now (leasts .entry)) (now (mosts .entry)) (now (marks .entry)) (now («start_leasts» .entry)) (now («start_mosts» .entry))) copies (ShortRuleLists (processOf p (now (sources .entry)) (now (targets .entry)) (now (leasts .entry)) (now (mosts .entry)) (now (marks .entry)) (now («start_leasts» .entry)) (now («start_mosts» .entry))) copies (now («out_sources» .entry)) (now («out_targets» .entry)) (now («out_leasts» .entry)) (now («out_mosts» .entry))) (unfoldedOf r (now (place .exit)) (now (events .exit)) (now (rules .exit))) ⌝ }
+    ensures { λ r. ⌜ UnfoldingWritten (processOf p (now (sources .entry)) (now (targets .entry)) (now (leasts .entry)) (now (mosts .entry)) (now (marks .entry)) (now («start_leasts» .entry)) (now («start_mosts» .entry))) copies (unfoldedOf r (now (place .exit)) (now (events .exit)) (now (rules .exit))) (now («out_sources» .entry)) (now («out_targets» .entry)) (now («out_leasts» .entry)) (now («out_mosts» .entry)) (now («out_sources» .exit)) (now («out_targets» .exit)) (now («out_leasts» .exit)) (now («out_mosts» .exit)) ⌝ }
 {
     let unfolded = processes::unfold(
         p,
@@ -32,6 +34,8 @@ pub extern "C" fn crankforest_unfold(
         leasts,
         mosts,
         marks,
+        start_leasts,
+        start_mosts,
         out_sources,
         out_targets,
         out_leasts,

@@ -1,4 +1,5 @@
 -- Two graphs with the same events and rules and delays that differ by at most e: demand 3, first sentence.
+--     near-exchanged    delays that are near one way are near the other way
 --     maxima-near       their greatest separations differ by at most e × (depth of source + depth of target)
 -- The idea. Take an execution of one graph. Let each rule take, in the other graph, the delay nearest to the one it took: it differs by at most e. Times follow from
 -- these delays (`times-follow`), and they differ from the old ones at an event v by at most e for each rule on a longest path from the root to v
@@ -158,7 +159,7 @@ module _ {c g h : Graph} (ec : SoundGraph c) (eh : SoundGraph h) (cg : SameRules
 
 -- ---- demand 3, first sentence
 
-near-exchanged : {e : ℕ} {g h : Graph} → SameRules g h → DelaysNear e g h → DelaysNear e h g
+pub near-exchanged : {e : ℕ} {g h : Graph} → SameRules g h → DelaysNear e g h → DelaysNear e h g
 near-exchanged {e} {g} {h} same n =
     record {
       leasts-near = λ i l. turned (n .leasts-near i (omega (arith, rules-same same)));

@@ -3,7 +3,7 @@
 --     follows, follows-same           times that follow from delays by the rules of one follow by the rules of the other
 --     same-exchanged, same-joined     SameRules read the other way; two graphs with the rules of a third have the same rules
 --     path-same                       a path of one is a path of the other, with as many rules
---     cycle-same                      a cycle of one is a cycle of the other
+--     on-cycle-same, cycle-same       an event on a cycle of one lies on one of the other; so a cycle of one is a cycle of the other
 --     depth-same                      an event has the same depth in both
 -- Assumes nothing.
 use mathlib.Core.Path.{_≡_, refl, ap, sym, subst, _∙_}
@@ -14,7 +14,7 @@ use lib.IntN.{ℤ, pos, _+ℤ_}
 use lib.Signed.{_≤ℤ_}
 use lib.ListN.{length, getD}
 use Rattle.graphs.specs.Graph.{Graph, rules, source, target, Greatest}
-use Rattle.graphs.specs.Path.{Path, HasCycle, Depth, steps}
+use Rattle.graphs.specs.Path.{Path, OnCycle, HasCycle, Depth, steps}
 use Rattle.graphs.specs.Path.Path.{stay, step}
 use Rattle.executions.specs.Execution.{Execution}
 use Rattle.executions.specs.Separation.{SameRules}
@@ -89,7 +89,10 @@ depth-same same d =
       bound = λ p. let back = path-same (same-exchanged same) p in omega (arith, d .bound (back .0), back .1);
     }
 
+pub on-cycle-same : {c g : Graph} {v : ℕ} → SameRules c g → OnCycle g v → OnCycle c v
+on-cycle-same same (p, l) =
+    let r = path-same same p in
+    (r .0, omega (arith, l, r .1))
+
 pub cycle-same : {c g : Graph} → SameRules c g → HasCycle g → HasCycle c
-cycle-same same k =
-    let r = path-same same (k .1) in
-    (k .0, r .0, omega (arith, k .2, r .1))
+cycle-same same (v, k) = (v, on-cycle-same same k)

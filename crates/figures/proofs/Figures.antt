@@ -1,15 +1,19 @@
--- Document 01's figures hold: one claim for all of them.
+-- The figures hold: one claim for all of them.
 --     figures-hold      every figure of specs/Figures.antt's list holds
+--     lowest-on-cycle-holds    and so does that of 02, wish 3
 -- Each figure has its certificate: for every event its depth, its m where it has one, and its U. The tests of Certificate.antt compute that the
--- certificate is right, and `passed` says that the figure then holds. An unfolding needs no certificate: its test reads none. Assumes nothing.
+-- certificate is right, and `passed` says that the figure then holds. An unfolding needs no certificate: its test reads none. Under hard deadlines there are times and a way instead of m and U. Assumes nothing.
+use mathlib.Core.Bool.{true, false}
 use mathlib.Core.List.{List, [], _∷_}
 use Prim.Native.Nat.{ℕ}
 use lib.IntN.{ℤ, pos, negℤ}
-use Rattle.figures.specs.Figures.{P1, P2, P3, P4, P5, P6, P7, P8, P9, P10, P11, Holds, figures, AllHold}
+use Rattle.figures.specs.Figures.{P1, P2, P3, P4, P5, P6, P7, P8, P9, P10, P11, P11-started, hard-fork, Holds, looped, LowestOnCycle, figures, AllHold}
 use Rattle.figures.proofs.Certificate.{Certificate, MaybeM}
 use Rattle.figures.proofs.Certificate.MaybeM.{absent, m-is}
 use Rattle.figures.proofs.Passed.{separation-passed, limit-passed, passed}
+use Rattle.figures.proofs.HardWays.{on, hard-passed}
 use Rattle.figures.proofs.Unfoldings.{unfolds-to}
+use Rattle.figures.proofs.Loops.{cycle-passed}
 
 abbrev certificate : List ℕ → List MaybeM → List ℤ → Certificate
 certificate depths ms us = record { depths = depths; ms = ms; us = us }
@@ -81,6 +85,39 @@ P11-holds : Holds P11
 P11-holds =
     (unfolds-to _ _ _ tt, (separation-passed against-1 _ _ _ _ tt, (separation-passed against-3 _ _ _ _ tt, separation-passed against-5 _ _ _ _ tt)))
 
+-- with the start interval [21, 21] on b→b the rules are as many, between the same events, and the depths too
+abbrev started-against-1 : Certificate
+started-against-1 =
+    fig1-certificate (m 0 ∷ m 0 ∷ absent ∷ absent ∷ absent ∷ absent ∷ absent ∷ [])
+    (pos 0 ∷ pos 0 ∷ pos 21 ∷ pos 22 ∷ pos 41 ∷ pos 42 ∷ pos 61 ∷ [])
+
+abbrev started-against-3 : Certificate
+started-against-3 =
+    fig1-certificate (m- 22 ∷ m- 4 ∷ m- 1 ∷ m 0 ∷ absent ∷ absent ∷ absent ∷ [])
+    (negℤ (pos 22) ∷ negℤ (pos 22) ∷ negℤ (pos 1) ∷ pos 0 ∷ pos 19 ∷ pos 20 ∷ pos 39 ∷ [])
+
+abbrev started-against-5 : Certificate
+started-against-5 =
+    fig1-certificate (m- 27 ∷ m- 8 ∷ m- 6 ∷ m- 4 ∷ m- 1 ∷ m 0 ∷ absent ∷ [])
+    (negℤ (pos 27) ∷ negℤ (pos 27) ∷ negℤ (pos 6) ∷ negℤ (pos 5) ∷ negℤ (pos 1) ∷ pos 0 ∷ pos 19 ∷ [])
+
+P11-started-holds : Holds P11-started
+P11-started-holds = (
+  unfolds-to _ _ _ tt,
+  (separation-passed started-against-1 _ _ _ _ tt, (separation-passed started-against-3 _ _ _ _ tt, separation-passed started-against-5 _ _ _ _ tt)),
+)
+
+-- times 0, 3, 3, 3; along 0→2 and 2→3 no hard times exceed 3 + 0
+hard-fork-holds : Holds hard-fork
+hard-fork-holds =
+    hard-passed (certificate (0 ∷ 1 ∷ 1 ∷ 2 ∷ []) [] []) (pos 0 ∷ pos 3 ∷ pos 3 ∷ pos 3 ∷ []) (on 1 ∷ on 3 ∷ []) _ _ _ _ tt
+
+-- the cycle 3→4→3; from 0 one comes to every other event, from 1 and 2 to none
+pub lowest-on-cycle-holds : LowestOnCycle
+lowest-on-cycle-holds = cycle-passed looped _ (4 ∷ []) ((false ∷ true ∷ true ∷ true ∷ true ∷ []) ∷ [] ∷ [] ∷ []) tt
+
 pub figures-hold : AllHold figures
-figures-hold =
-    (P1-holds, (P2-holds, (P3-holds, (P4-holds, (P5-holds, (P6-holds, (P7-holds, (P8-holds, (P9-holds, (P10-holds, (P11-holds, tt)))))))))))
+figures-hold = (
+  P1-holds,
+  (P2-holds, (P3-holds, (P4-holds, (P5-holds, (P6-holds, (P7-holds, (P8-holds, (P9-holds, (P10-holds, (P11-holds, (P11-started-holds, (hard-fork-holds, tt)))))))))))),
+)

@@ -5,4 +5,6 @@ pub mod Checked
 pub mod Roundings
 pub mod Unfoldings
 pub mod Passed
+pub mod HardWays
+pub mod Loops
 pub mod Figures

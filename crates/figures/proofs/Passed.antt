@@ -2,12 +2,13 @@
 --     graphPasses c g      the graph keeps 01's limits, and the certificate's depths are its depths
 --     stepsPass c g s      the certificate's m and U are those against s
 --     passes c f           the figure f is as the certificate has it
+--     event-graph          the graph is an event graph where its test passes
 --     separation-passed    a separation whose certificate passes is as the figure has it
 --     limit-passed         so is a limit that is met; the graph and the graph that it is rounded to have a certificate each
 --     passed               then the figure holds, whatever it says
 -- Assumes nothing.
 use mathlib.Core.Path.{subst}
-use mathlib.Core.Bool.{Bool, _&&_}
+use mathlib.Core.Bool.{Bool, false, _&&_}
 use mathlib.Core.List.{List}
 use Prim.Native.Nat.{ℕ, _+_, _-_, _*_, _<_}
 use lib.IntN.{ℤ, pos, _+ℤ_}
@@ -22,7 +23,7 @@ use Rattle.executions.specs.Schedule.{Latest}
 use Rattle.graphs.proofs.Limits.{sound-of}
 use Rattle.executions.proofs.Schedules.{greatest-delay-of, schedule-of, separation-of}
 use Rattle.figures.specs.Figures.{Figure, SeparationIs, DepthsAre, CoarseIs, LimitMet, Holds}
-use Rattle.figures.specs.Figures.Figure.{separation-is, depths-are, schedule-is, coarse-is, limit-met, unfolding-is, both}
+use Rattle.figures.specs.Figures.Figure.{separation-is, depths-are, schedule-is, coarse-is, limit-met, hard-separation-is, unfolding-is, both}
 use Rattle.figures.proofs.Tests.{both-pass, eqZ, eqZ-passes}
 use Rattle.figures.proofs.Certificate.{Certificate, depthAt, mAt, uAt, keepsLimits, limits-kept, keepsDepths, Depths, depths-kept, keepsM, ms-kept, keepsU, us-kept, keepsSchedule, times-kept, delays-lesser}
 use Rattle.figures.proofs.Roundings.{roundsTo, rounds-to}
@@ -61,6 +62,8 @@ passes c (schedule-is g s times delays) =
     keepsSchedule g (uAt c) (λ i. getD delays i (pos 0)) (λ v. getD times v (pos 0))))
 passes c (coarse-is g q lows highs s t x) = coarsePasses c g q lows highs s t x
 passes c (limit-met g q lows highs s t a d x y) = limitPasses c c g q lows highs s t a d x y
+-- hard times have a test of their own, in HardWays.antt
+passes c (hard-separation-is g s t x) = false
 passes c (unfolding-is g K graph) = unfoldsTo g K graph
 passes c (both f h) = passes c f && passes c h
 
@@ -71,7 +74,7 @@ module _ (c : Certificate) (g : Graph) (t : T (graphPasses c g)) where
   depths : Depths g (depthAt c)
   depths = depths-kept g (depthAt c) (both-pass (keepsLimits 1000000 g) (keepsDepths g (depthAt c)) t .1)
 
-  event-graph : EventGraph 1000000 g
+  pub event-graph : EventGraph 1000000 g
   event-graph = checked-graph sized depths
 
   depth-is : (v k : ℕ) → T (ltb v (g .events) && eqb (depthAt c v) k) → Depth g v k
@@ -156,6 +159,7 @@ passed c (schedule-is g s times delays) p =
     }
 passed c (coarse-is g q lows highs s t x) p = coarse-passed c g q lows highs s t x p
 passed c (limit-met g q lows highs s t a d x y) p = limit-passed c c g q lows highs s t a d x y p
+passed c (hard-separation-is g s t x) p = absurd p
 passed c (unfolding-is g K graph) p = unfolds-to g K graph p
 passed c (both f h) p =
     let (first, second) = both-pass (passes c f) _ p in

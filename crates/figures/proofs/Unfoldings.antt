@@ -7,12 +7,12 @@ use mathlib.Core.Path.{_≡_, refl, sym, subst}
 use mathlib.Core.Bool.{Bool, _&&_, _||_}
 use mathlib.Core.Logic.{_⊎_, inl, inr}
 use Prim.Native.Nat.{ℕ, zero, suc, _+_, _*_, _<_}
-use lib.IntN.{ℤ, pos}
+use lib.IntN.{ℤ}
 use lib.ListN.{length}
 use lib.Dec.{T, eqb, eqb→eq}
 use Rattle.graphs.specs.Graph as rule
 use Rattle.graphs.specs.Graph.{Graph}
-use Rattle.processes.specs.Process.{ProcessGraph, templates, source, target, least, most, mark, occurrence, Node, number, Instance}
+use Rattle.processes.specs.Process.{ProcessGraph, templates, source, target, least, most, mark, start-least, start-most, occurrence, Node, number, Instance}
 use Rattle.processes.specs.Process.Node.{root, at}
 use Rattle.processes.specs.Process.Instance.{together, onward, start}
 use Rattle.processes.specs.Unfolding.{RuleAt, Unfolds}
@@ -33,7 +33,7 @@ abbrev isTogether : ProcessGraph → ℕ → ℕ → Graph → ℕ → Bool
 isTogether g k j graph i = isMarked g k j graph i 0 (at (occurrence g k (source g j))) (least g j) (most g j)
 
 abbrev isLater : ProcessGraph → ℕ → ℕ → Graph → ℕ → Bool
-isLater g zero j graph i = isMarked g zero j graph i 1 root (pos 0) (pos 0)
+isLater g zero j graph i = isMarked g zero j graph i 1 root (start-least g j) (start-most g j)
 isLater g (suc before) j graph i = isMarked g (suc before) j graph i 1 (at (occurrence g before (source g j))) (least g j) (most g j)
 
 abbrev isInstance : ProcessGraph → Graph → ℕ → ℕ → Bool
@@ -64,7 +64,7 @@ module _ (g : ProcessGraph) (j : ℕ) (graph : Graph) (i : ℕ) where
   together-passes k = marked-passes k 0 (at (occurrence g k (source g j))) (least g j) (most g j) together
 
   later-passes : (k : ℕ) → T (isLater g k j graph i) → RuleAt g k j graph i
-  later-passes zero = marked-passes zero 1 root (pos 0) (pos 0) (λ marked. start marked refl)
+  later-passes zero = marked-passes zero 1 root (start-least g j) (start-most g j) (λ marked. start marked refl)
   later-passes (suc before) =
       marked-passes (suc before) 1 (at (occurrence g before (source g j))) (least g j) (most g j) (λ marked. onward before marked refl)
 

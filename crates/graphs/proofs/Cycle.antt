@@ -1,5 +1,7 @@
 -- A path with as many rules as the graph has events meets an event twice, so the graph has a cycle.
 --     eventAt p k             the event after k rules of p; beyond p's end, p's last event
+--     leaves-below            a path on which a rule stands starts below b, where every source is
+--     on-cycle-known          an event that lies on a cycle exists, where every rule's events do
 --     part-of                 the part of a path between two of its places
 --     closed-cycle            a path between equal events on which a rule stands is a cycle
 --     path-cycle              a long path among the graph's events gives a cycle
@@ -10,7 +12,7 @@ use mathlib.Core.Path.{_≡_, refl, sym, subst}
 use Prim.Native.Nat.{ℕ, zero, suc, _+_, _≤_, _<_, zero-le}
 use native.Mathlib.Omega.{arith}
 use Rattle.graphs.specs.Graph.{Graph, rules, source, target}
-use Rattle.graphs.specs.Path.{Path, stay, step, steps, HasCycle}
+use Rattle.graphs.specs.Path.{Path, stay, step, steps, OnCycle, HasCycle}
 use Rattle.graphs.specs.Limits.{EndsKept}
 use Rattle.sequences.proofs.Pigeonhole.{Twice, pigeonhole}
 
@@ -18,6 +20,14 @@ abbrev pub eventAt : {g : Graph} {u v : ℕ} → Path g u v → ℕ → ℕ
 eventAt {u = u} p zero = u
 eventAt {u = u} stay (suc k) = u
 eventAt (step i h e f p) (suc k) = eventAt p k
+
+-- the first rule of the path leads from it
+pub leaves-below : {g : Graph} {b : ℕ} → ((i : ℕ) → i < rules g → source g i < b) → {u v : ℕ} (p : Path g u v) → 0 < steps p → u < b
+leaves-below below stay l = absurd (let none : ⊥ = omega arith in none)
+leaves-below {b = b} below (step i h e f p) l = subst (λ (x : ℕ). x < b) e (below i h)
+
+pub on-cycle-known : {g : Graph} {v : ℕ} → ((i : ℕ) → i < rules g → EndsKept g i) → OnCycle g v → v < g .events
+on-cycle-known kept c = leaves-below (λ i l. kept i l .source-known) (c .0) (c .1)
 
 -- the rules of p from place i to place j
 pub part-of : {g : Graph} {u v : ℕ} (p : Path g u v) (i j : ℕ) → i ≤ j → j ≤ steps p → (q : Path g (eventAt p i) (eventAt p j)) × (i + steps q ≡ j)
@@ -36,7 +46,7 @@ part-of (step r h e f p) (suc i) (suc j) l k =
 pub closed-cycle : {g : Graph} {u v : ℕ} (p : Path g u v) → u ≡ v → 0 < steps p → HasCycle g
 closed-cycle {g} {u} {v} p e l =
     let round : (q : Path g u u) × (0 < steps q) = subst (λ (x : ℕ). (q : Path g u x) × (0 < steps q)) (sym e) (p, l) in
-    (u, round .0, round .1)
+    (u, round)
 
 -- Of the places 0 to n of the path, with n events to stand there, two have the same event: the part between them is the cycle
 pub path-cycle : {g : Graph} {u v : ℕ} (p : Path g u v) → ((k : ℕ) → eventAt p k < g .events) → g .events ≤ steps p → HasCycle g

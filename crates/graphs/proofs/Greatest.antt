@@ -85,4 +85,4 @@ incoming {g} {v} graph l other = by (last-rule (graph .reachable v l))
 pub root-has-no-rule : {g : Graph} → SoundGraph g → (i : ℕ) → i < rules g → target g i ≡ 0 → ⊥
 root-has-no-rule {g} graph i l to =
     let p : Path g 0 (source g i) = graph .reachable (source g i) (graph .ends i l .source-known) in
-    graph .acyclic (0, along p i l refl to, omega (arith, steps-along p i l refl to))
+    graph .acyclic (0, (along p i l refl to, omega (arith, steps-along p i l refl to)))

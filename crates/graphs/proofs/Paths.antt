@@ -124,7 +124,7 @@ module _ {g : Graph} (rank : ℕ → ℕ) (higher : (i : ℕ) → i < rules g �
   path-rank (step i h e f p) = omega (arith, path-rank p, higher i h, ap rank e, ap rank f)
 
   pub ranked-acyclic : HasCycle g → ⊥
-  ranked-acyclic (v, p, l) = omega (arith, path-rank p)
+  ranked-acyclic (v, (p, l)) = omega (arith, path-rank p)
 
 -- ---- without a cycle
 
@@ -134,7 +134,7 @@ acyclic-stays acyclic {v} p =
     (none, empty-sum p none)
   where
     no-steps : Dec (0 < steps p) → steps p ≡ 0
-    no-steps (yes l) = absurd (acyclic (v, p, l))
+    no-steps (yes l) = absurd (acyclic (v, (p, l)))
     no-steps (no h) = omega arith
 
 -- ---- the size of a sum

@@ -1,9 +1,9 @@
 -- What is unique, and what is left where a refusal does not apply.
 --     depth-unique                       an event has one depth
---     counts-kept, counts-not-outside    the counts are kept just where refusal 1 does not apply to the graph
+--     counts-kept, events-not-outside, rules-not-outside    the counts are kept just where neither refusal 21 nor 22 applies to the graph
 --     known-ends, ends-kept              the same of a rule's events and refusal 2
 --     inside-delays, delays-kept         the same of a rule's delays and refusal 3
---     sized-of                           so a graph to which none of the three applies is sized
+--     sized-of                           so a graph to which none of the four applies is sized
 -- Assumes nothing.
 use mathlib.Core.Path.{_≡_}
 use mathlib.Core.Logic.{_⊎_, inl, inr}
@@ -19,7 +19,7 @@ use Rattle.graphs.specs.Path.{Depth}
 use Rattle.graphs.specs.Limits.{CountsKept, EndsKept, DelaysKept, Sized}
 use Rattle.verdicts.specs.Verdict.{Lowest}
 use Rattle.verdicts.proofs.Verdicts.{none-lowest}
-use Rattle.graphs.specs.Refusal.{CountsOutside, no-events, many-events, many-rules, targets-differ, leasts-differ, mosts-differ, UnknownEvent, BeyondDelays, least-low, least-high, most-low, most-high, crossed, DelayBeyond}
+use Rattle.graphs.specs.Refusal.{EventsOutside, no-events, many-events, RulesOutside, many-rules, targets-differ, leasts-differ, mosts-differ, UnknownEvent, BeyondDelays, least-low, least-high, most-low, most-high, crossed, DelayBeyond}
 
 pub depth-unique : {g : Graph} {v j k : ℕ} → Depth g v j → Depth g v k → j ≡ k
 depth-unique a b =
@@ -27,29 +27,31 @@ depth-unique a b =
     let (q, q-steps) = b .reached in
     omega (arith, a .bound q, b .bound p)
 
--- ---- refusal 1
+-- ---- refusals 21 and 22
 
-pub counts-kept : {g : Graph} → (CountsOutside g → ⊥) → CountsKept g
-counts-kept {g} inside =
-    let some : g .events ≡ 0 → ⊥ = λ e. inside (no-events e) in
-    let few : 1024 < g .events → ⊥ = λ l. inside (many-events l) in
-    let few-rules : 4096 < rules g → ⊥ = λ l. inside (many-rules l) in
+pub counts-kept : {g : Graph} → (EventsOutside 1024 (g .events) → ⊥) → (RulesOutside 4096 g → ⊥) → CountsKept g
+counts-kept {g} no-21 no-22 =
+    let some : g .events ≡ 0 → ⊥ = λ e. no-21 (no-events e) in
+    let few : 1024 < g .events → ⊥ = λ l. no-21 (many-events l) in
+    let few-rules : 4096 < rules g → ⊥ = λ l. no-22 (many-rules l) in
     record {
       some-event = omega arith;
       few-events = omega arith;
       few-rules = omega arith;
-      targets-match = stable (length (g .targets)) (rules g) (λ d. inside (targets-differ d));
-      leasts-match = stable (length (g .leasts)) (rules g) (λ d. inside (leasts-differ d));
-      mosts-match = stable (length (g .mosts)) (rules g) (λ d. inside (mosts-differ d));
+      targets-match = stable (length (g .targets)) (rules g) (λ d. no-22 (targets-differ d));
+      leasts-match = stable (length (g .leasts)) (rules g) (λ d. no-22 (leasts-differ d));
+      mosts-match = stable (length (g .mosts)) (rules g) (λ d. no-22 (mosts-differ d));
     }
 
-pub counts-not-outside : {g : Graph} → CountsKept g → CountsOutside g → ⊥
-counts-not-outside kept (no-events e) = omega arith
-counts-not-outside kept (many-events l) = omega arith
-counts-not-outside kept (many-rules l) = omega arith
-counts-not-outside kept (targets-differ d) = d (kept .targets-match)
-counts-not-outside kept (leasts-differ d) = d (kept .leasts-match)
-counts-not-outside kept (mosts-differ d) = d (kept .mosts-match)
+pub events-not-outside : {g : Graph} → CountsKept g → EventsOutside 1024 (g .events) → ⊥
+events-not-outside kept (no-events e) = omega (arith, kept .some-event)
+events-not-outside kept (many-events l) = omega (arith, kept .few-events)
+
+pub rules-not-outside : {g : Graph} → CountsKept g → RulesOutside 4096 g → ⊥
+rules-not-outside kept (many-rules l) = omega (arith, kept .few-rules)
+rules-not-outside kept (targets-differ d) = d (kept .targets-match)
+rules-not-outside kept (leasts-differ d) = d (kept .leasts-match)
+rules-not-outside kept (mosts-differ d) = d (kept .mosts-match)
 
 -- ---- refusal 2
 
@@ -90,12 +92,14 @@ delays-kept {b} {g} {i} kept d = by (d .outside)
     by (most-high h) = omega (linear, kept .most-within .below)
     by (crossed h) = omega (linear, kept .ordered)
 
--- ---- refusals 1 to 3
+-- ---- refusals 21, 22, 2 and 3
 
-pub sized-of : {b : ℕ} {g : Graph} → (CountsOutside g → ⊥) → ((p : ℕ) → Lowest (UnknownEvent g) p → ⊥) → ((p : ℕ) → Lowest (DelayBeyond b g) p → ⊥) → Sized b g
-sized-of {b} {g} no-1 no-2 no-3 =
+pub sized-of : {b : ℕ} {g : Graph} →
+    (EventsOutside 1024 (g .events) → ⊥) → (RulesOutside 4096 g → ⊥) →
+    ((p : ℕ) → Lowest (UnknownEvent g) p → ⊥) → ((p : ℕ) → Lowest (DelayBeyond b g) p → ⊥) → Sized b g
+sized-of {b} {g} no-21 no-22 no-2 no-3 =
     record {
-      counts = counts-kept no-1;
+      counts = counts-kept no-21 no-22;
       ends = λ i l. known-ends l (none-lowest no-2 i);
       delays = λ i l. inside-delays l (none-lowest no-3 i);
     }

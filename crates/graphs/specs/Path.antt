@@ -2,7 +2,8 @@
 --     Path g u v       == a way from event u to event v along rules; the empty way from v to v is one
 --     steps p          == how many rules stand on p
 --     leastSum p       == the sum of the least delays on p
---     HasCycle g       == some event has a path to itself on which a rule stands
+--     OnCycle g v      == event v lies on a cycle: there is a path from v to itself on which a rule stands
+--     HasCycle g       == some event lies on a cycle
 --     Reachable g v    == there is a path from the root to v
 --     Depth g v k      == k is the greatest number of rules on a path from the root to v
 -- Assumes nothing.
@@ -24,9 +25,13 @@ abbrev pub leastSum : {g : Graph} {u v : ℕ} → Path g u v → ℤ
 leastSum stay = pos 0
 leastSum {g} (step i h e f p) = least g i +ℤ leastSum p
 
--- "The graph must have no cycle … A rule from an event to itself is a cycle"
+-- 02, wish 3: an "event that lies on a cycle". "A rule from an event to itself is a cycle"
+abbrev pub OnCycle : Graph → ℕ → Type 0
+OnCycle g v = (p : Path g v v) × (0 < steps p)
+
+-- "The graph must have no cycle"
 abbrev pub HasCycle : Graph → Type 0
-HasCycle g = (v : ℕ) × (p : Path g v v) × (0 < steps p)
+HasCycle g = (v : ℕ) × OnCycle g v
 
 -- "every event must be reachable from the root"
 abbrev pub Reachable : Graph → ℕ → Type 0

@@ -64,7 +64,7 @@ module _ {g : ProcessGraph} {K : ℕ} {graph : Graph} (unfolds : Unfolds g K gra
   pub cycle-unfolds : 0 < K → MarkZeroCycle g → HasCycle graph
   cycle-unfolds some-copy (v, (w, some)) =
       let (p, as-many) = way-unfolds 0 some-copy w in
-      (occurrence g 0 v .0, p, omega (arith, as-many))
+      (occurrence g 0 v .0, (p, omega (arith, as-many)))
 
 -- ---- and back
 
@@ -132,7 +132,7 @@ module _ {g : ProcessGraph} {K : ℕ} {graph : Graph} (unfolds : Unfolds g K gra
   ends-at-occurrence (step i is-rule e f (step i′ is-rule′ e′ f′ p)) some = ends-at-occurrence (step i′ is-rule′ e′ f′ p) (omega arith)
 
   pub cycle-folds : HasCycle graph → MarkZeroCycle g
-  cycle-folds (x, p, some) =
+  cycle-folds (x, (p, some)) =
       let (k, u, u-known, there) = ends-at-occurrence p some in
       let (w, as-many) = path-folds p k k u u u-known u-known there there .way refl in
       (u, (w, omega (arith, as-many)))

@@ -17,10 +17,10 @@ use mathlib.Core.Path.{_≡_, refl, sym, ap, subst, _∙_}
 use mathlib.Core.Logic.{_⊎_, inl, inr, _↔_}
 use Prim.Native.Nat.{ℕ, _+_, _*_, _<_}
 use native.Mathlib.Omega.{arith}
-use lib.IntN.{ℤ, pos}
+use lib.IntN.{ℤ}
 use Rattle.graphs.specs.Graph as rule
 use Rattle.graphs.specs.Graph.{Graph, rules}
-use Rattle.processes.specs.Process.{ProcessGraph, templates, source, target, least, most, mark, occurrence, Node, root, at, number, Instance, together, onward, start, Rules, R, instantiated, startup}
+use Rattle.processes.specs.Process.{ProcessGraph, templates, source, target, least, most, mark, start-least, start-most, occurrence, Node, root, at, number, Instance, together, onward, start, Rules, R, instantiated, startup}
 use Rattle.processes.specs.Unfolding.{RuleAt, Unfolds}
 use Rattle.processes.proofs.Numbers.{places-apart, place-below, Place, place-found}
 
@@ -60,7 +60,7 @@ module _ {g : ProcessGraph} {K : ℕ} where
       let next : b + mark g j ≡ k = omega arith in
       subst (λ (x : ℕ). R g K (at (occurrence g b (source g j))) (at (occurrence g x (target g j))) (least g j) (most g j)) next (instantiated j b l (omega arith))
   instance-in-R {k} {j} below l (start m e) =
-      subst (λ (x : ℕ). R g K root (at (occurrence g x (target g j))) (pos 0) (pos 0)) (sym e) (startup j l m (omega arith))
+      subst (λ (x : ℕ). R g K root (at (occurrence g x (target g j))) (start-least g j) (start-most g j)) (sym e) (startup j l m (omega arith))
 
   pub rules-in-R : {u v : Node} {d D : ℤ} → Rules g K u v d D → R g K u v d D
   rules-in-R r = instance-in-R (r .k-below) (r .is-template) (r .instance)

@@ -3,7 +3,7 @@
 --     kept-of             unfolding refuses nothing only where all is kept
 --     kept-accepted       and where all is kept and the lists are long enough, it refuses nothing
 --     instance-sized      the instance of a kept template at a k below K has known ends and delays inside
---     unfolded-sized      the unfolding passes the analysis's refusals 1, 2 and 3
+--     unfolded-sized      the unfolding passes the analysis's refusals 21, 22, 2 and 3
 --     past-question       asked about two of its events, it passes refusal 4 too, and what comes after decides
 --     only-paths-refused  so the analysis refuses it only with 5 or 6
 --     handed              the lists that an accepted unfolding leaves are the unfolding of a process graph that is kept
@@ -13,9 +13,8 @@ use mathlib.Core.Path.{_≡_, sym, subst₂}
 use mathlib.Core.List.{List, [], _∷_}
 use Prim.Native.Nat.{ℕ, _+_, _*_, _<_}
 use native.Mathlib.Omega.{arith}
-use lib.IntN.{ℤ, pos}
+use lib.IntN.{ℤ}
 use lib.ListN.{take}
-use Rattle.integers.proofs.Integer.{linear, negation}
 use Rattle.verdicts.specs.Verdict.{Accepted}
 use Rattle.verdicts.proofs.Verdicts.{none-accepted, accepted-none, rest-of, OneOf, verdict-number}
 use Rattle.graphs.specs.Graph.{Graph, graphOf, rules}
@@ -34,10 +33,10 @@ use Rattle.processes.proofs.Refusals.{TemplatesKept, Kept, process-none
 
 -- ---- a process graph that is kept
 
--- "unfolding 1, 2, 3, 7": where the verdict is 0 none applies
+-- "unfolding 1, 2, 3, 7", with "21, 22, 24, 23 where 1 stood": where the verdict is 0 none applies
 pub kept-of : {g : ProcessGraph} {K : ℕ} {Short : Type 0} {j p : ℕ} → UnfoldingVerdict g K Short j p → j ≡ 0 → (Kept g K) × (Short → ⊥)
 kept-of {g} {K} {Short} {j} {p} v e =
-    process-kept (accepted-none (processChecks g K Short) Accepted (omega arith, (omega arith, (omega arith, (omega arith, tt)))) j p e v .0)
+    process-kept (accepted-none (processChecks g K Short) Accepted (omega arith, (omega arith, (omega arith, (omega arith, (omega arith, (omega arith, (omega arith, tt))))))) j p e v .0)
 
 pub kept-accepted : {g : ProcessGraph} {K : ℕ} {Short : Type 0} → Kept g K → (Short → ⊥) → UnfoldingVerdict g K Short 0 0
 kept-accepted {g} {K} {Short} kept room = none-accepted (processChecks g K Short) (process-none room kept)
@@ -49,7 +48,7 @@ pub record InstanceSized (n : ℕ) (u v : Node) (d D : ℤ) : Type 0 where
   pub to-known : number v < n
   pub delays : InsideDelays d D
 
--- a start rule has delay [0, 0] and comes from the root; the others have the template's delay
+-- a start rule has the template's start interval and comes from the root; the others have the template's delay
 pub instance-sized : {g : ProcessGraph} {K k j : ℕ} {u v : Node} {d D : ℤ} → TemplatesKept g → k < K → j < templates g → Instance g k j u v d D → InstanceSized (1 + g .events * K) u v d D
 instance-sized {g} {K} {k} {j} kept below l (together m) =
     let e = kept .ends j l in
@@ -69,15 +68,11 @@ instance-sized {g} {K} {k} {j} kept below l (onward b m is-next) =
     }
 instance-sized {g} {K} {k} {j} kept below l (start m first) =
     let e = kept .ends j l in
+    let h = kept .starts j l m in
     record {
       from-known = omega arith;
       to-known = occurrence-below g K k (target g j) (e .target-known) below;
-      delays =
-          record {
-            least-within = record { above = omega (linear, negation (pos 1000000)); below = omega linear };
-            most-within = record { above = omega (linear, negation (pos 1000000)); below = omega linear };
-            ordered = omega linear;
-          };
+      delays = record { least-within = h .least-within; most-within = h .most-within; ordered = h .ordered };
     }
 
 module _ {g : ProcessGraph} {K : ℕ} {graph : Graph} (kept : Kept g K) (unfolds : Unfolds g K graph) where
@@ -111,7 +106,7 @@ module _ {g : ProcessGraph} {K : ℕ} {graph : Graph} (kept : Kept g K) (unfolds
 
 -- ---- what the analysis says of it
 
--- a graph that passes 1, 2 and 3, asked about two of its events: what comes after 4 decides
+-- a graph that passes 21, 22, 2 and 3, asked about two of its events: what comes after 4 decides
 pub past-question : {graph : Graph} {s t : ℕ} {Short : Type 0} {Rest : ℕ → ℕ → Type 0} {j p : ℕ}
     → Sized 1000000 graph → (Short → ⊥) → s < graph .events → t < graph .events → analysis.InputVerdict graph s t Short Rest j p → Rest j p
 past-question {graph} {s} {t} {Short} {Rest} {j} {p} sized room hs ht v =

@@ -6,6 +6,7 @@ pub mod Refusals
 pub mod Handed
 pub mod Cycles
 pub mod Unique
+pub mod Starts
 pub mod Products
 pub mod Verdicts
 pub mod Writing

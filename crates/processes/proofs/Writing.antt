@@ -22,7 +22,7 @@ use Rattle.graphs.specs.Graph as rule
 use Rattle.graphs.specs.Graph.{Graph, graphOf}
 use Rattle.refusals.specs.Faults.{EndsKnown}
 use Rattle.processes.specs.declared.Unfolded.{Unfolded}
-use Rattle.processes.specs.Process.{ProcessGraph, templates, source, target, least, most, mark, occurrence, Node, root, at, Instance, together, onward, start}
+use Rattle.processes.specs.Process.{ProcessGraph, templates, source, target, least, most, mark, start-least, start-most, occurrence, Node, root, at, Instance, together, onward, start}
 use Rattle.processes.specs.Unfolding.{RuleAt, Unfolds, UnfoldingWritten}
 use Rattle.processes.specs.Parts.Checks.{ProcessCountsKept, MarkKept, ProcessKept}
 use Rattle.processes.specs.Parts.Writing.{InstanceSource, InstanceDelay, InstanceWritten, InstancesWritten}
@@ -33,8 +33,8 @@ module _ {g : ProcessGraph} {k j : ℕ} where
   pub rule-at : (G : Graph) (i : ℕ) →
       InstanceSource (g .events) k (mark g j) (source g j .0) (rule.source G i) →
       rule.target G i ≡ occurrence g k (target g j) .0 →
-      InstanceDelay k (mark g j) (least g j) (rule.least G i) →
-      InstanceDelay k (mark g j) (most g j) (rule.most G i) →
+      InstanceDelay k (mark g j) (least g j) (start-least g j) (rule.least G i) →
+      InstanceDelay k (mark g j) (most g j) (start-most g j) (rule.most G i) →
       MarkKept (g .marks) j →
       RuleAt g k j G i
   rule-at G i s t d D (inl e) =
@@ -174,8 +174,8 @@ module _ {g : ProcessGraph} {K : ℕ} {ss₀ ts₀ : List ℕ} {ds₀ Ds₀ : Li
         i
         (subst (InstanceSource (g .events) k (mark g j) (source g j .0)) (sym (put-here ss ss′ i (r .s) (r .sources-set) 0 (omega arith))) (r .source-at))
         (put-here ts ts′ i (r .t) (r .targets-set) 0 (omega arith) ∙ r .target-at)
-        (subst (InstanceDelay k (mark g j) (least g j)) (sym (put-here ds ds′ i (r .d) (r .leasts-set) (pos 0) (omega arith))) (r .least-at))
-        (subst (InstanceDelay k (mark g j) (most g j)) (sym (put-here Ds Ds′ i (r .D) (r .mosts-set) (pos 0) (omega arith))) (r .most-at))
+        (subst (InstanceDelay k (mark g j) (least g j) (start-least g j)) (sym (put-here ds ds′ i (r .d) (r .leasts-set) (pos 0) (omega arith))) (r .least-at))
+        (subst (InstanceDelay k (mark g j) (most g j) (start-most g j)) (sym (put-here Ds Ds′ i (r .D) (r .mosts-set) (pos 0) (omega arith))) (r .most-at))
         m
 
     pub writing-more : RulesWriting g K ss₀ ts₀ ds₀ Ds₀ ss ts ds Ds i k j →

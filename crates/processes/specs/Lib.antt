@@ -2,4 +2,5 @@
 pub mod Process
 pub mod Ways
 pub mod Unfolding
+pub mod Starts
 pub mod Parts

@@ -1,16 +1,17 @@
--- The promise of the unfolding. Document 01, sections "Process graphs and their unfolding" and "Refusal numbers"; demand 2, last sentence.
---     ProcessCountsOutside g K         == refusal 1 of the process graph: a count is outside its limits, or the template lists differ in length
---     ShortRuleLists …                 == refusal 1 of the lent lists: one has fewer than templates × K places
+-- The promise of the unfolding. Document 01, sections "Process graphs and their unfolding" and "Refusal numbers"; demand 2, last sentence; 02, wishes 1 and 3.
+--     TemplatesOutside g               == refusal 22: the templates are more than their limit, or the template lists differ in length
+--     UnfoldingOutside g K             == refusal 24: K is 0, or the unfolding is beyond its limits
+--     ShortRuleLists …                 == refusal 23 of the lent lists: one has fewer than templates × K places
 --     UnknownTemplateEvent g j         == refusal 2: template j names an event that doesn't exist
---     TemplateDelayOutside g j         == refusal 3: a delay of template j is out of range, or d > D
+--     TemplateDelayOutside g j         == refusal 3: a delay of template j is out of range, or d > D; or so its start interval, where its mark is 1
 --     MarkOutside g j                  == refusal 7: the offset mark of template j is neither 0 nor 1
---     processChecks g K Short          == the refusals 1, 2, 3, 7, in 01's order
+--     processChecks g K Short          == the refusals 21, 22, 24, 23, 2, 3, 7, in this order
 --     UnfoldingVerdict g K Short       == the first of them that applies
 --     RuleAt g k j graph i             == rule i of the graph is the instance of template j at k
 --     Unfolds g K graph                == the graph holds exactly the occurrences and rules of the unfolding, in 01's order
 --     UnfoldingAnswered g K Short a    == a is the answer: the verdict's number and place, and both counts where nothing is refused
 --     UnfoldingWritten g K a olds news == what the four lent lists hold after
--- Assumes nothing.
+-- Refusal 21 is `EventsOutside` of graphs/specs/Refusal.antt, with 1,023 for the limit. Assumes nothing.
 use mathlib.Core.Path.{_≡_}
 use mathlib.Core.Logic.{_⊎_}
 use mathlib.Core.List.{List, [], _∷_}
@@ -20,20 +21,25 @@ use lib.ListN.{length, take, drop}
 use Rattle.graphs.specs.Graph as rule
 use Rattle.graphs.specs.Graph.{Graph, graphOf}
 use Rattle.verdicts.specs.Verdict.{Check, check, FirstOf, AtZero, Lowest}
-use Rattle.graphs.specs.Refusal.{OutsideDelays}
+use Rattle.graphs.specs.Refusal.{EventsOutside, OutsideDelays}
 use Rattle.processes.specs.declared.Unfolded.{Unfolded}
-use Rattle.processes.specs.Process.{ProcessGraph, templates, source, target, least, most, mark, Node, number, Instance}
+use Rattle.processes.specs.Process.{ProcessGraph, templates, source, target, least, most, mark, start-least, start-most, Node, number, Instance}
 
--- "a count is outside its limits, the … template lists differ in length"; "p ≥ 1", "K ≥ 1", "1 + p × K ≤ 1,024 and templates × K ≤ 4,096"
-pub data ProcessCountsOutside (g : ProcessGraph) (K : ℕ) : Type 0 where
-  no-events : g .events ≡ 0 → ProcessCountsOutside g K
-  no-copies : K ≡ 0 → ProcessCountsOutside g K
-  many-occurrences : 1024 < 1 + g .events * K → ProcessCountsOutside g K
-  many-rules : 4096 < templates g * K → ProcessCountsOutside g K
-  targets-differ : (length (g .targets) ≡ templates g → ⊥) → ProcessCountsOutside g K
-  leasts-differ : (length (g .leasts) ≡ templates g → ⊥) → ProcessCountsOutside g K
-  mosts-differ : (length (g .mosts) ≡ templates g → ⊥) → ProcessCountsOutside g K
-  marks-differ : (length (g .marks) ≡ templates g → ⊥) → ProcessCountsOutside g K
+-- 02: "rule or template count above 4,096 or unequal lists 22"
+pub data TemplatesOutside (g : ProcessGraph) : Type 0 where
+  many-templates : 4096 < templates g → TemplatesOutside g
+  targets-differ : (length (g .targets) ≡ templates g → ⊥) → TemplatesOutside g
+  leasts-differ : (length (g .leasts) ≡ templates g → ⊥) → TemplatesOutside g
+  mosts-differ : (length (g .mosts) ≡ templates g → ⊥) → TemplatesOutside g
+  marks-differ : (length (g .marks) ≡ templates g → ⊥) → TemplatesOutside g
+  start-leasts-differ : (length (g .start-leasts) ≡ templates g → ⊥) → TemplatesOutside g
+  start-mosts-differ : (length (g .start-mosts) ≡ templates g → ⊥) → TemplatesOutside g
+
+-- 02: "K = 0 or an unfolding beyond its limits 24"; 01: "1 + p × K ≤ 1,024 and templates × K ≤ 4,096"
+pub data UnfoldingOutside (g : ProcessGraph) (K : ℕ) : Type 0 where
+  no-copies : K ≡ 0 → UnfoldingOutside g K
+  many-occurrences : 1024 < 1 + g .events * K → UnfoldingOutside g K
+  many-rules : 4096 < templates g * K → UnfoldingOutside g K
 
 -- "each of the four output lists needs that many places"
 pub data ShortRuleLists (g : ProcessGraph) (K : ℕ) (ss ts : List ℕ) (ds Ds : List ℤ) : Type 0 where
@@ -46,19 +52,21 @@ pub record UnknownTemplateEvent (g : ProcessGraph) (j : ℕ) : Type 0 where
   pub is-template : j < templates g
   pub unknown : (g .events ≤ source g j .0) ⊎ (g .events ≤ target g j .0)
 
+-- 02: "3 covers the start interval too, same template as place", "an entry for another mark is neither read nor checked"
 pub record TemplateDelayOutside (g : ProcessGraph) (j : ℕ) : Type 0 where
   pub is-template : j < templates g
-  pub outside : OutsideDelays (least g j) (most g j)
+  pub outside : OutsideDelays (least g j) (most g j) ⊎ ((mark g j ≡ 1) × OutsideDelays (start-least g j) (start-most g j))
 
 pub record MarkOutside (g : ProcessGraph) (j : ℕ) : Type 0 where
   pub is-template : j < templates g
   pub not-zero : mark g j ≡ 0 → ⊥
   pub not-one : mark g j ≡ 1 → ⊥
 
--- "unfolding 1, 2, 3, 7"
+-- "unfolding 1, 2, 3, 7"; 02: "process-event count of 0 or above 1,023, 21", "checked 21, 22, 24, 23 where 1 stood"
 abbrev pub processChecks : ProcessGraph → ℕ → Type 0 → List Check
 processChecks g K Short =
-    check 1 (AtZero (ProcessCountsOutside g K ⊎ Short)) ∷ check 2 (Lowest (UnknownTemplateEvent g)) ∷ check 3 (Lowest (TemplateDelayOutside g)) ∷ check 7 (Lowest (MarkOutside g)) ∷ []
+    check 21 (AtZero (EventsOutside 1023 (g .events))) ∷ check 22 (AtZero (TemplatesOutside g)) ∷ check 24 (AtZero (UnfoldingOutside g K)) ∷ check 23 (AtZero Short) ∷
+    check 2 (Lowest (UnknownTemplateEvent g)) ∷ check 3 (Lowest (TemplateDelayOutside g)) ∷ check 7 (Lowest (MarkOutside g)) ∷ []
 
 abbrev pub UnfoldingVerdict : ProcessGraph → ℕ → Type 0 → ℕ → ℕ → Type 0
 UnfoldingVerdict g K Short = FirstOf (processChecks g K Short)

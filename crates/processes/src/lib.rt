@@ -26,8 +26,8 @@ pub struct Unfolded {
     pub rules: usize,
 }
 
-// K = `copies` occurrences of each of p process events, and for each k below K the rule of every template, written into the four lent lists. Places beyond
-// keep what they held; refused, all do.
+// K = `copies` occurrences of each of p process events, and for each k below K the rule of every template, written into the four lent lists. The start rule of
+// a template with mark 1 has its start interval; a start entry of another mark is not looked at. Places beyond keep what they held; refused, all do.
 pub fn unfold(
     p: usize,
     copies: usize,
@@ -36,13 +36,15 @@ pub fn unfold(
     leasts: &[i64],
     mosts: &[i64],
     marks: &[usize],
+    start_leasts: &[i64],
+    start_mosts: &[i64],
     out_sources: &mut [usize],
     out_targets: &mut [usize],
     out_leasts: &mut [i64],
     out_mosts: &mut [i64],
 ) -> Unfolded
-    ensures { λ r. ⌜ UnfoldingAnswered (processOf p (now (sources .entry)) (now (targets .entry)) (now (leasts .entry)) (now (mosts .entry)) (now (marks .entry))) copies (ShortRuleLists (processOf p (now (sources .entry)) (now (targets .entry)) (now (leasts .entry)) (now (mosts .entry)) (now (marks .entry))) copies (now («out_sources» .entry)) (now («out_targets» .entry)) (now («out_leasts» .entry)) (now («out_mosts» .entry))) r ⌝ }
-    ensures { λ r. ⌜ UnfoldingWritten (processOf p (now (sources .entry)) (now (targets .entry)) (now (leasts .entry)) (now (mosts .entry)) (now (marks .entry))) copies r (now («out_sources» .entry)) (now («out_targets» .entry)) (now («out_leasts» .entry)) (now («out_mosts» .entry)) (now («out_sources» .exit)) (now («out_targets» .exit)) (now («out_leasts» .exit)) (now («out_mosts» .exit)) ⌝ }
+    ensures { λ r. ⌜ UnfoldingAnswered (processOf p (now (sources .entry)) (now (targets .entry)) (now (leasts .entry)) (now (mosts .entry)) (now (marks .entry)) (now («start_leasts» .entry)) (now («start_mosts» .entry))) copies (ShortRuleLists (processOf p (now (sources .entry)) (now (targets .entry)) (now (leasts .entry)) (now (mosts .entry)) (now (marks .entry)) (now («start_leasts» .entry)) (now («start_mosts» .entry))) copies (now («out_sources» .entry)) (now («out_targets» .entry)) (now («out_leasts» .entry)) (now («out_mosts» .entry))) r ⌝ }
+    ensures { λ r. ⌜ UnfoldingWritten (processOf p (now (sources .entry)) (now (targets .entry)) (now (leasts .entry)) (now (mosts .entry)) (now (marks .entry)) (now («start_leasts» .entry)) (now («start_mosts» .entry))) copies r (now («out_sources» .entry)) (now («out_targets» .entry)) (now («out_leasts» .entry)) (now («out_mosts» .entry)) (now («out_sources» .exit)) (now («out_targets» .exit)) (now («out_leasts» .exit)) (now («out_mosts» .exit)) ⌝ }
 {
     let places = fewest(
         out_sources.len(),
@@ -50,7 +52,18 @@ pub fn unfold(
         out_leasts.len(),
         out_mosts.len(),
     );
-    let answer = check_process(p, copies, sources, targets, leasts, mosts, marks, places);
+    let answer = check_process(
+        p,
+        copies,
+        sources,
+        targets,
+        leasts,
+        mosts,
+        marks,
+        start_leasts,
+        start_mosts,
+        places,
+    );
     if answer.refusal != 0 {
         return answer;
     }
@@ -62,6 +75,8 @@ pub fn unfold(
         leasts,
         mosts,
         marks,
+        start_leasts,
+        start_mosts,
         out_sources,
         out_targets,
         out_leasts,

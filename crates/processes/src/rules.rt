@@ -37,15 +37,15 @@ fn source_at(p: usize, k: usize, mark: usize, u: Event) -> usize
     before.0
 }
 
-// A delay of a rule at k: the template's, or 0 in a start rule.
-fn delay_at(k: usize, mark: usize, delay: i64) -> i64
-    ensures { λ r. ⌜ InstanceDelay k mark delay r ⌝ }
+// A delay of a rule at k: the template's, or in a start rule its start delay.
+fn delay_at(k: usize, mark: usize, delay: i64, start: i64) -> i64
+    ensures { λ r. ⌜ InstanceDelay k mark delay start r ⌝ }
 {
     if k > 0 {
         return delay;
     }
     if mark == 1 {
-        return 0;
+        return start;
     }
     delay
 }
@@ -61,15 +61,17 @@ fn write_rule(
     leasts: &[i64],
     mosts: &[i64],
     marks: &[usize],
+    start_leasts: &[i64],
+    start_mosts: &[i64],
     out_sources: &mut [usize],
     out_targets: &mut [usize],
     out_leasts: &mut [i64],
     out_mosts: &mut [i64],
 )
-    requires { ⌜ (length (now targets) ≡ length (now sources)) × (length (now leasts) ≡ length (now sources)) × (length (now mosts) ≡ length (now sources)) × (length (now marks) ≡ length (now sources)) × (length (now sources) ≤ 4096) × (j < length (now sources)) ⌝ }
+    requires { ⌜ (length (now targets) ≡ length (now sources)) × (length (now leasts) ≡ length (now sources)) × (length (now mosts) ≡ length (now sources)) × (length (now marks) ≡ length (now sources)) × (length (now «start_leasts») ≡ length (now sources)) × (length (now «start_mosts») ≡ length (now sources)) × (length (now sources) ≤ 4096) × (j < length (now sources)) ⌝ }
     requires { ⌜ (k * p + getD (now sources) j 0 < 1024) × (k * p + getD (now targets) j 0 < 1024) ⌝ }
     requires { ⌜ (i < 4096) × (i < length (now «out_sources»)) × (i < length (now «out_targets»)) × (i < length (now «out_leasts»)) × (i < length (now «out_mosts»)) ⌝ }
-    ensures { λ _. ⌜ InstanceWritten (processOf p (now (sources .entry)) (now (targets .entry)) (now (leasts .entry)) (now (mosts .entry)) (now (marks .entry))) k j i (now («out_sources» .entry)) (now («out_targets» .entry)) (now («out_leasts» .entry)) (now («out_mosts» .entry)) (now («out_sources» .exit)) (now («out_targets» .exit)) (now («out_leasts» .exit)) (now («out_mosts» .exit)) ⌝ }
+    ensures { λ _. ⌜ InstanceWritten (processOf p (now (sources .entry)) (now (targets .entry)) (now (leasts .entry)) (now (mosts .entry)) (now (marks .entry)) (now («start_leasts» .entry)) (now («start_mosts» .entry))) k j i (now («out_sources» .entry)) (now («out_targets» .entry)) (now («out_leasts» .entry)) (now («out_mosts» .entry)) (now («out_sources» .exit)) (now («out_targets» .exit)) (now («out_leasts» .exit)) (now («out_mosts» .exit)) ⌝ }
 {
     let mark = marks[j];
     let source = sources[j];
@@ -78,8 +80,8 @@ fn write_rule(
     let o = occurrence(p, k, Event(target));
     let number = o.0;
     out_targets[i] = number;
-    out_leasts[i] = delay_at(k, mark, leasts[j]);
-    out_mosts[i] = delay_at(k, mark, mosts[j]);
+    out_leasts[i] = delay_at(k, mark, leasts[j], start_leasts[j]);
+    out_mosts[i] = delay_at(k, mark, mosts[j], start_mosts[j]);
 }
 
 // All rules: for k = 0, then 1, and so on, one for each template.
@@ -91,14 +93,16 @@ pub(crate) fn write_rules(
     leasts: &[i64],
     mosts: &[i64],
     marks: &[usize],
+    start_leasts: &[i64],
+    start_mosts: &[i64],
     out_sources: &mut [usize],
     out_targets: &mut [usize],
     out_leasts: &mut [i64],
     out_mosts: &mut [i64],
 )
-    requires { ⌜ ProcessKept (processOf p (now sources) (now targets) (now leasts) (now mosts) (now marks)) copies (length (now sources) * copies) ⌝ }
+    requires { ⌜ ProcessKept (processOf p (now sources) (now targets) (now leasts) (now mosts) (now marks) (now «start_leasts») (now «start_mosts»)) copies (length (now sources) * copies) ⌝ }
     requires { ⌜ (length (now sources) * copies ≤ length (now «out_sources»)) × (length (now sources) * copies ≤ length (now «out_targets»)) × (length (now sources) * copies ≤ length (now «out_leasts»)) × (length (now sources) * copies ≤ length (now «out_mosts»)) ⌝ }
-    ensures { λ _. ⌜ InstancesWritten (processOf p (now (sources .entry)) (now (targets .entry)) (now (leasts .entry)) (now (mosts .entry)) (now (marks .entry))) copies (now («out_sources» .entry)) (now («out_targets» .entry)) (now («out_leasts» .entry)) (now («out_mosts» .entry)) (now («out_sources» .exit)) (now («out_targets» .exit)) (now («out_leasts» .exit)) (now («out_mosts» .exit)) ⌝ }
+    ensures { λ _. ⌜ InstancesWritten (processOf p (now (sources .entry)) (now (targets .entry)) (now (leasts .entry)) (now (mosts .entry)) (now (marks .entry)) (now («start_leasts» .entry)) (now («start_mosts» .entry))) copies (now («out_sources» .entry)) (now («out_targets» .entry)) (now («out_leasts» .entry)) (now («out_mosts» .entry)) (now («out_sources» .exit)) (now («out_targets» .exit)) (now («out_leasts» .exit)) (now («out_mosts» .exit)) ⌝ }
 {
     let templates = sources.len();
     let rules = templates * copies;
@@ -116,6 +120,8 @@ pub(crate) fn write_rules(
             leasts,
             mosts,
             marks,
+            start_leasts,
+            start_mosts,
             out_sources,
             out_targets,
             out_leasts,

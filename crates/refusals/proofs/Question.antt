@@ -1,24 +1,23 @@
 -- The verdict on a question, from what the searches find.
 --     lowest-unknown, all-ends-kept        what the search for an unknown event tells of the graph, by whether it stopped before the end
 --     lowest-beyond, all-delays-kept       the same of the search for a delay beyond the bound
---     input-1 … input-4-target             refusals 1 to 4, each from the facts that shut out the earlier ones
---     QuestionKept b g s t, none-kept, question-kept    what is kept where none of the four applies
+--     input-2 … input-4-target             refusals 2 to 4, each from the facts that shut out the earlier ones
+--     QuestionKept b g s t, none-kept, question-kept    what is kept where none applies
 --     kept-none, kept-accepted             and that none applies where it is kept
 -- Assumes nothing.
 use mathlib.Core.Path.{_≡_, refl, sym}
-use mathlib.Core.Logic.{inl}
 use mathlib.Core.List.{List}
 use Prim.Native.Nat.{ℕ, _<_, _≤_, min}
 use native.Mathlib.Omega.{arith}
 use lib.IntN.{ℤ}
 use lib.ListN.{length}
 use Rattle.verdicts.specs.Verdict.{given, passed, FirstThen, FirstOf, Lowest, LowestOr}
-use Rattle.verdicts.proofs.Verdicts.{NoneApplies, none-accepted, accepted-none}
+use Rattle.verdicts.proofs.Verdicts.{NoneApplies, misses-at-zero, none-accepted, accepted-none}
 use Rattle.verdicts.proofs.Searches.{lowest-bad, all-good, as-long}
 use Rattle.graphs.specs.Graph.{Graph, graphOf, rules}
 use Rattle.graphs.specs.Limits.{CountsKept, EndsKept, DelaysKept, Sized}
-use Rattle.graphs.specs.Refusal.{CountsOutside, UnknownEvent, DelayBeyond, MissingEnd, source-missing, target-missing, questionChecksTo}
-use Rattle.graphs.proofs.Refusals.{counts-miss, ends-miss, delays-miss, question-none, question-sized}
+use Rattle.graphs.specs.Refusal.{UnknownEvent, DelayBeyond, MissingEnd, source-missing, target-missing, questionChecksTo}
+use Rattle.graphs.proofs.Refusals.{events-miss, rules-miss, ends-miss, delays-miss, question-none, question-sized}
 use Rattle.refusals.specs.Faults.{EndsKnown, EndUnknown, DelaysBounded, DelaysBeyond}
 use Rattle.refusals.proofs.Unique.{known-not-unknown, inside-not-outside}
 
@@ -63,23 +62,22 @@ module _ {n : ℕ} {ss ts : List ℕ} {ds Ds : List ℤ} {r : ℕ} where
       let inside = all-good (as-long e h) l i (omega arith) in
       record { least-within = inside .least-within; most-within = inside .most-within; ordered = inside .ordered }
 
--- ---- refusals 1 to 4
+-- ---- refusals 2 to 4
 
 never : ⊥ → ⊥
 never x = x
 
 module _ {b : ℕ} {g : Graph} {s t : ℕ} where
-  pub input-1 : CountsOutside g → FirstOf (questionChecksTo b g s t ⊥) 1 0
-  input-1 h = given (record { zero-place = refl; holds = inl h })
-
   pub input-2 : CountsKept g → {p : ℕ} → Lowest (UnknownEvent g) p → FirstOf (questionChecksTo b g s t ⊥) 2 p
-  input-2 counts h = passed (counts-miss never counts) (given h)
+  input-2 counts h = passed (events-miss counts) (passed (rules-miss counts) (passed (misses-at-zero never) (given h)))
 
   pub input-3 : CountsKept g → ((i : ℕ) → i < rules g → EndsKept g i) → {p : ℕ} → Lowest (DelayBeyond b g) p → FirstOf (questionChecksTo b g s t ⊥) 3 p
-  input-3 counts ends h = passed (counts-miss never counts) (passed (ends-miss ends) (given h))
+  input-3 counts ends h = passed (events-miss counts) (passed (rules-miss counts) (passed (misses-at-zero never) (passed (ends-miss ends) (given h))))
 
   input-4 : Sized b g → {p : ℕ} → MissingEnd g s t p → FirstOf (questionChecksTo b g s t ⊥) 4 p
-  input-4 sized h = passed (counts-miss never (sized .counts)) (passed (ends-miss (sized .ends)) (passed (delays-miss (sized .delays)) (given h)))
+  input-4 sized h =
+      passed (events-miss (sized .counts))
+      (passed (rules-miss (sized .counts)) (passed (misses-at-zero never) (passed (ends-miss (sized .ends)) (passed (delays-miss (sized .delays)) (given h)))))
 
   pub input-4-source : Sized b g → g .events ≤ s → FirstOf (questionChecksTo b g s t ⊥) 4 0
   input-4-source sized h = input-4 sized (source-missing h)
@@ -103,7 +101,7 @@ module _ {b : ℕ} {g : Graph} {s t : ℕ} where
 
   pub none-kept : {Short : Type 0} → NoneApplies (questionChecksTo b g s t Short) → QuestionKept b g s t
   none-kept none =
-      let at : (p : ℕ) → MissingEnd g s t p → ⊥ = none .1 .1 .1 .0 in
+      let at : (p : ℕ) → MissingEnd g s t p → ⊥ = none .1 .1 .1 .1 .1 .0 in
       let source-in : g .events ≤ s → ⊥ = λ l. at 0 (source-missing l) in
       let hs : s < g .events = omega arith in
       let target-in : g .events ≤ t → ⊥ = λ l. at 1 (target-missing hs l) in
@@ -112,5 +110,5 @@ module _ {b : ℕ} {g : Graph} {s t : ℕ} where
   -- where number 0 is given, all is kept, and what comes after has its say
   pub question-kept : {Short : Type 0} (Rest : ℕ → ℕ → Type 0) {j p : ℕ} → j ≡ 0 → FirstThen (questionChecksTo b g s t Short) Rest j p → QuestionKept b g s t × Rest j p
   question-kept {Short} Rest {j} {p} e v =
-      let (none, rest) = accepted-none (questionChecksTo b g s t Short) Rest (omega arith, (omega arith, (omega arith, (omega arith, tt)))) j p e v in
+      let (none, rest) = accepted-none (questionChecksTo b g s t Short) Rest (omega arith, (omega arith, (omega arith, (omega arith, (omega arith, (omega arith, tt)))))) j p e v in
       (none-kept none, rest)

@@ -2,7 +2,8 @@
 --     known-not-unknown, inside-not-outside       an entry has a fault or has none, not both
 --     lowest-or-unique                            a search in which nothing is both good and bad has one answer
 --     unknown-event-unique, outside-delay-unique  so has each of the two searches
---     counts-kept-unique                          the counts are kept or are not
+--     interval-outside-unique                     so has the test of one interval
+--     check-counts-unique                         the counts of a graph have one refusal
 --     same-refusal                                a refusal is its number and place
 --     check-input-unique                          a question has one number and place
 -- Assumes nothing.
@@ -15,14 +16,13 @@ use native.Mathlib.Omega.{arith}
 use lib.IntN.{ℤ}
 use lib.ListN.{length}
 use Rattle.graphs.specs.Graph.{Graph, graphOf}
-use Rattle.graphs.specs.Refusal.{BeyondDelays, questionChecksTo}
-use Rattle.graphs.proofs.Unique.{counts-not-outside, delays-kept}
-use Rattle.graphs.proofs.Refusals.{question-places}
+use Rattle.graphs.specs.Refusal.{BeyondDelays, countChecks, questionChecksTo}
+use Rattle.graphs.proofs.Unique.{delays-kept}
+use Rattle.graphs.proofs.Refusals.{count-places, question-places}
 use Rattle.verdicts.specs.Verdict.{LowestOr, FirstOf}
 use Rattle.verdicts.proofs.Verdicts.{one-verdict}
 use Rattle.refusals.specs.declared.Refusal.{Refusal}
-use Rattle.refusals.specs.Counts.{CountsChecked}
-use Rattle.refusals.specs.Faults.{EndsKnown, EndUnknown, BoundedDelays, DelaysInside, DelaysOutside}
+use Rattle.refusals.specs.Faults.{EndsKnown, EndUnknown, BoundedDelays, DelaysInside, DelaysOutside, DelaysChecked}
 
 pub known-not-unknown : {n : ℕ} {ss ts : List ℕ} {i : ℕ} → EndsKnown n ss ts i → EndUnknown n ss ts i → ⊥
 known-not-unknown h u = ⊎-elim (λ l. omega (arith, h .source-known)) (λ l. omega (arith, h .target-known)) u
@@ -56,14 +56,14 @@ module _ (ds Ds : List ℤ) {p q : ℕ} where
       p ≡ q
   outside-delay-unique = lowest-or-unique (λ i. inside-not-outside)
 
-pub counts-kept-unique : {g : Graph} {a b : Bool} → CountsChecked g a → CountsChecked g b → a ≡ b
-counts-kept-unique {g} {a} {b} x y = by a b x y
-  where
-    by : (a b : Bool) → CountsChecked g a → CountsChecked g b → a ≡ b
-    by true true x y = refl
-    by true false x y = absurd (counts-not-outside (x .kept refl) (y .outside refl))
-    by false true x y = absurd (counts-not-outside (y .kept refl) (x .outside refl))
-    by false false x y = refl
+pub interval-outside-unique : {b : ℕ} {d D : ℤ} (x y : Bool) → DelaysChecked b d D x → DelaysChecked b d D y → x ≡ y
+interval-outside-unique true true a c = refl
+interval-outside-unique false false a c = refl
+interval-outside-unique true false a c = absurd (inside-not-outside (c .inside refl) (a .outside refl))
+interval-outside-unique false true a c = absurd (inside-not-outside (a .inside refl) (c .outside refl))
+
+pub check-counts-unique : {top most : ℕ} {g : Graph} {a b : ℕ} → FirstOf (countChecks top most g) a 0 → FirstOf (countChecks top most g) b 0 → a ≡ b
+check-counts-unique {top} {most} {g} v w = one-verdict (countChecks top most g) (count-places g) _ _ _ _ v w .0
 
 -- a refusal is its number and place
 pub same-refusal : {a b : Refusal} → (a .number ≡ b .number) × (a .place ≡ b .place) → a ≡ b

@@ -1,4 +1,3 @@
 -- The refusals that can be given before any path is looked at.
 pub mod Faults
-pub mod Counts
 pub mod Question

@@ -2,22 +2,27 @@
 // graphs share the searches.
 //     unknown_event    the lowest entry with an event that doesn't exist, or the end
 //     outside_delay    the lowest entry with a delay out of range, or a least delay above the most, or the end
-//     counts_kept      whether the counts of a graph are within their limits
-//     check_input      the first of the refusals 1 to 4 that applies to a question about two events
+//     interval_outside whether one interval has a delay out of range, or a least delay above the most
+//     check_counts     refusal 21 or 22, where a count of a graph is outside its limits
+//     check_input      the first of the refusals 21, 22 and 2 to 4 that applies to a question about two events
 // No caller is trusted: a search looks at lists of different lengths as far as both go. The promises are in specs/.
 ghost use mathlib.Core.Path.{_≡_};
 ghost use Prim.Native.Nat.{_≤_, min};
 ghost use lib.ListN.{length};
 ghost use Rattle.verdicts.specs.Verdict.{LowestOr, FirstOf};
 ghost use Rattle.graphs.specs.Graph.{graphOf};
-ghost use Rattle.graphs.specs.Refusal.{questionChecksTo};
+ghost use Rattle.graphs.specs.Refusal.{countChecks, questionChecksTo};
 ghost use Rattle.refusals.specs.Faults.{EndsKnown, EndUnknown, DelaysChecked, DelaysBounded, DelaysBeyond, DelaysInside, DelaysOutside};
-ghost use Rattle.refusals.specs.Counts.{CountsChecked};
 ghost use Rattle.refusals.specs.Question.{delayLimit};
 
 const MAX_EVENTS: usize = 1024;
 
 const MAX_RULES: usize = 4096;
+
+// The refusal of a number of events outside its limits, and of rules that are too many or whose lists differ in length.
+const EVENTS_OUTSIDE: usize = 21;
+
+const RULES_OUTSIDE: usize = 22;
 
 const MAX_DELAY: usize = 1000000;
 
@@ -90,36 +95,45 @@ pub fn outside_delay(leasts: &[i64], mosts: &[i64]) -> usize
     beyond_delay(MAX_DELAY, leasts, mosts)
 }
 
-// Whether the counts are within their limits, and the four lists have one entry for each rule.
-pub fn counts_kept(
+// Whether a delay of one interval is out of range, or its least delay is above its most.
+pub fn interval_outside(least: i64, most: i64) -> bool
+    ensures { λ r. ⌜ DelaysChecked 1000000 least most r ⌝ }
+{
+    delays_beyond(MAX_DELAY, least, most)
+}
+
+// Refusal 21 where the events are none or more than `max_events`; 22 where the rules are more than `max_rules`, or the four lists differ in length; else 0.
+pub fn check_counts(
+    max_events: usize,
+    max_rules: usize,
     n: usize,
     sources: &[usize],
     targets: &[usize],
     leasts: &[i64],
     mosts: &[i64],
-) -> bool
-    ensures { λ r. ⌜ CountsChecked (graphOf n (now (sources .entry)) (now (targets .entry)) (now (leasts .entry)) (now (mosts .entry))) r ⌝ }
+) -> usize
+    ensures { λ r. ⌜ FirstOf (countChecks «max_events» «max_rules» (graphOf n (now (sources .entry)) (now (targets .entry)) (now (leasts .entry)) (now (mosts .entry)))) r 0 ⌝ }
 {
     if n == 0 {
-        return false;
+        return EVENTS_OUTSIDE;
     }
-    if n > MAX_EVENTS {
-        return false;
+    if n > max_events {
+        return EVENTS_OUTSIDE;
     }
     let rules = sources.len();
-    if rules > MAX_RULES {
-        return false;
+    if rules > max_rules {
+        return RULES_OUTSIDE;
     }
     if targets.len() != rules {
-        return false;
+        return RULES_OUTSIDE;
     }
     if leasts.len() != rules {
-        return false;
+        return RULES_OUTSIDE;
     }
     if mosts.len() != rules {
-        return false;
+        return RULES_OUTSIDE;
     }
-    true
+    0
 }
 
 // The limit of the delays: `limit`, but no more than rounded delays can come to.
@@ -133,7 +147,7 @@ fn delay_limit(limit: usize) -> usize
     }
 }
 
-// The first of the refusals 1 to 4 that applies to a question about s and t, or number 0. Delays may be from −limit to limit.
+// The first of the refusals 21, 22 and 2 to 4 that applies to a question about s and t, or number 0. Delays may be from −limit to limit; no list is lent.
 pub fn check_input(
     n: usize,
     sources: &[usize],
@@ -146,9 +160,10 @@ pub fn check_input(
 ) -> Refusal
     ensures { λ r. ⌜ FirstOf (questionChecksTo (delayLimit limit) (graphOf n (now (sources .entry)) (now (targets .entry)) (now (leasts .entry)) (now (mosts .entry))) s t ⊥) (r .number) (r .place) ⌝ }
 {
-    if !counts_kept(n, sources, targets, leasts, mosts) {
+    let counts = check_counts(MAX_EVENTS, MAX_RULES, n, sources, targets, leasts, mosts);
+    if counts != 0 {
         return Refusal {
-            number: 1,
+            number: counts,
             place: 0,
         };
     }

@@ -1,15 +1,15 @@
 -- The promises of the functions that round: what they are put together from, and that two results allowed for one input are equal, lists included.
 --     step-places, step-kept             refusal 9 has one place; where q is from 1 to 1,000, it does not apply
---     lists-kept                         where the lists have room, refusal 1 does not apply
+--     lists-kept                         where the lists are as long and have room, refusals 22 and 23 do not apply
 --     lowest-entry, all-inside           what the search for a delay outside tells, by whether it stopped before the end
---     rounding-1, rounding-3, rounding-9 the refusals, each from the facts that shut out the earlier ones
+--     rounding-22, rounding-23, rounding-3, rounding-9    the refusals, each from the facts that shut out the earlier ones
 --     delays-refused, delays-rounded     a refusal, which leaves both lists as they were; and what is written where there is none
 --     went-down-unique, went-up-unique   a number is rounded to one number
 --     round-delays-unique                two results of `round_delays` are equal
 -- Assumes nothing.
 use mathlib.Core.Path.{_≡_, refl, sym, subst, _∙_}
-use mathlib.Core.Logic.{⊎-elim}
-use mathlib.Core.List.{List}
+use mathlib.Core.Logic.{_⊎_, inl, inr, ⊎-elim}
+use mathlib.Core.List.{List, [], _∷_}
 use Prim.Native.Nat.{ℕ, _<_, _≤_, min}
 use native.Mathlib.Decide.{ℕ-discrete}
 use native.Mathlib.Omega.{arith}
@@ -17,17 +17,17 @@ use lib.IntN.{ℤ, pos}
 use lib.ListN.{length, getD}
 use Rattle.sequences.specs.Filled.{Filled}
 use Rattle.sequences.proofs.Same.{same-places}
-use Rattle.verdicts.specs.Verdict.{given, passed, AtZero, Lowest, LowestOr, FirstOf}
-use Rattle.verdicts.proofs.Verdicts.{OnePlace, Misses, lowest-unique, at-zero-unique, one-verdict, none-accepted}
+use Rattle.verdicts.specs.Verdict.{check, given, passed, AtZero, Lowest, LowestOr, FirstOf}
+use Rattle.verdicts.proofs.Verdicts.{OnePlace, NoneApplies, Misses, at-zero, misses-at-zero, lowest-unique, at-zero-unique, one-verdict, none-accepted}
 use Rattle.verdicts.proofs.Searches.{lowest-bad, all-good, as-long}
 use Rattle.refusals.specs.declared.Refusal.{Refusal}
 use Rattle.refusals.specs.Faults.{DelaysInside, DelaysOutside}
 use Rattle.refusals.proofs.Unique.{inside-not-outside, same-refusal}
 use Rattle.rounding.specs.Rounding.{Down, Up}
-use Rattle.rounding.specs.Promise.{StepOutside, WentDown, went-down, not-down, WentUp, went-up, not-up, ListsOutside, lists-differ, low-short, high-short, EntryOutside, roundingChecks, DelaysRounded}
+use Rattle.rounding.specs.Promise.{StepOutside, WentDown, went-down, not-down, WentUp, went-up, not-up, ListsDiffer, ShortForDelays, EntryOutside, roundingChecks, DelaysRounded}
 use Rattle.rounding.proofs.Multiples.{down-unique, up-unique}
 
--- ---- refusals 1, 3 and 9
+-- ---- refusals 22, 23, 3 and 9
 
 pub step-places : {q : ℕ} → OnePlace (StepOutside q)
 step-places a b x y = x .its-place ∙ sym (y .its-place)
@@ -42,13 +42,13 @@ pub record Room (leasts mosts low high : ℕ) : Type 0 where
   pub low-long : leasts ≤ low
   pub high-long : leasts ≤ high
 
-room-kept : {a b c d : ℕ} → Room a b c d → ListsOutside a b c d → ⊥
-room-kept room (lists-differ e) = e (room .as-many)
-room-kept room (low-short l) = omega (arith, room .low-long)
-room-kept room (high-short l) = omega (arith, room .high-long)
+module _ (ds Ds low high : List ℤ) (room : Room (length ds) (length Ds) (length low) (length high)) where
+  long-enough : ShortForDelays ds low high → ⊥
+  long-enough (inl l) = omega (arith, room .low-long)
+  long-enough (inr l) = omega (arith, room .high-long)
 
-pub lists-kept : {a b c d : ℕ} → Room a b c d → Misses (AtZero (ListsOutside a b c d))
-lists-kept room p o = room-kept room (o .holds)
+  pub lists-kept : NoneApplies (check 22 (AtZero (ListsDiffer ds Ds)) ∷ check 23 (AtZero (ShortForDelays ds low high)) ∷ [])
+  lists-kept = (misses-at-zero (λ differ. differ (room .as-many)), (misses-at-zero long-enough, tt))
 
 module _ (ds Ds : List ℤ) {r : ℕ} (as-many : length Ds ≡ length ds) (found : LowestOr (min (length ds) (length Ds)) (DelaysInside ds Ds) (DelaysOutside ds Ds) r) where
   pub lowest-entry : r < length ds → Lowest (EntryOutside ds Ds) r
@@ -66,19 +66,27 @@ pub inside-kept : {ds Ds : List ℤ} → ((i : ℕ) → i < length ds → Delays
 inside-kept inside p o = inside-not-outside (inside p (o .holds .is-entry)) (o .holds .outside)
 
 module _ {q : ℕ} {ds Ds : List ℤ} (low high : List ℤ) where
-  pub rounding-1 : ListsOutside (length ds) (length Ds) (length low) (length high) → FirstOf (roundingChecks q ds Ds low high) 1 0
-  rounding-1 h = given (record { zero-place = refl; holds = h })
+  pub rounding-22 : ListsDiffer ds Ds → FirstOf (roundingChecks q ds Ds low high) 22 0
+  rounding-22 h = given (at-zero h)
+
+  pub rounding-23 : length Ds ≡ length ds → ShortForDelays ds low high → FirstOf (roundingChecks q ds Ds low high) 23 0
+  rounding-23 e h = passed (misses-at-zero (λ differ. differ e)) (given (at-zero h))
 
   module _ (room : Room (length ds) (length Ds) (length low) (length high)) where
     pub rounding-3 : {p : ℕ} → Lowest (EntryOutside ds Ds) p → FirstOf (roundingChecks q ds Ds low high) 3 p
-    rounding-3 h = passed (lists-kept room) (given h)
+    rounding-3 h =
+        let (differ, (short, _)) = lists-kept ds Ds low high room in
+        passed differ (passed short (given h))
 
     pub rounding-9 : ((i : ℕ) → i < length ds → DelaysInside ds Ds i) → {p : ℕ} → StepOutside q p → FirstOf (roundingChecks q ds Ds low high) 9 p
-    rounding-9 inside h = passed (lists-kept room) (passed (inside-kept inside) (given h))
+    rounding-9 inside h =
+        let (differ, (short, _)) = lists-kept ds Ds low high room in
+        passed differ (passed short (passed (inside-kept inside) (given h)))
 
     rounding-0 : ((i : ℕ) → i < length ds → DelaysInside ds Ds i) → 1 ≤ q → q ≤ 1000 → FirstOf (roundingChecks q ds Ds low high) 0 0
     rounding-0 inside positive small =
-        none-accepted (roundingChecks q ds Ds low high) (lists-kept room, (inside-kept inside, (step-kept positive small, tt)))
+        let (differ, (short, _)) = lists-kept ds Ds low high room in
+        none-accepted (roundingChecks q ds Ds low high) (differ, (short, (inside-kept inside, (step-kept positive small, tt))))
 
 -- ---- the results
 
@@ -141,7 +149,7 @@ module _ {q : ℕ} {ds Ds low₀ high₀ low high low′ high′ : List ℤ} {r 
   round-delays-unique = go (ℕ-discrete (r .number) 0)
     where
       same : (r .number ≡ r′ .number) × (r .place ≡ r′ .place)
-      same = one-verdict (roundingChecks q ds Ds low₀ high₀) (at-zero-unique, (lowest-unique, (step-places, tt))) _ _ _ _ (a .verdict) (b .verdict)
+      same = one-verdict (roundingChecks q ds Ds low₀ high₀) (at-zero-unique, (at-zero-unique, (lowest-unique, (step-places, tt)))) _ _ _ _ (a .verdict) (b .verdict)
 
       go : Dec (r .number ≡ 0) → (r ≡ r′) × (low ≡ low′) × (high ≡ high′)
       go (yes e) =

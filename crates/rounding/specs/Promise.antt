@@ -1,10 +1,11 @@
--- The promises of the functions that round. Document 01, sections "Coarse form" and "Refusal numbers".
+-- The promises of the functions that round. Document 01, sections "Coarse form" and "Refusal numbers"; 02, wish 3.
 --     StepOutside q p             == refusal 9: "q is 0 or above 1,000", place q
 --     Roundable q x               == q is a step, and x lies where a delay may
 --     WentDown q x y, WentUp q x y == y is where x goes down to, or up to; where x can't be rounded in steps of q, y is x
---     ListsOutside a b c d        == refusal 1: a least and b most delays differ in number, or a lent list of c or of d places is too short
+--     ListsDiffer ds Ds           == refusal 22: the least and the most delays differ in number
+--     ShortForDelays ds low high  == refusal 23: a lent list is too short
 --     EntryOutside ds Ds i        == refusal 3: the delays of entry i are outside
---     roundingChecks q ds Ds low high == refusals 1, 3 and 9, in 01's order
+--     roundingChecks q ds Ds low high == refusals 22, 23, 3 and 9, in this order
 --     DelaysRounded q ds Ds low₀ high₀ low high r == the refusal, and what the two lent lists, which held low₀ and high₀, hold after
 -- Assumes nothing.
 use mathlib.Core.Path.{_≡_}
@@ -39,20 +40,23 @@ pub data WentUp (q : ℕ) (x y : ℤ) : Type 0 where
   went-up : Roundable q x → Up q x y → WentUp q x y
   not-up : (Roundable q x → ⊥) → y ≡ x → WentUp q x y
 
--- "the rule … lists differ in length, or a lent output list is too short"
-pub data ListsOutside (leasts mosts low high : ℕ) : Type 0 where
-  lists-differ : (mosts ≡ leasts → ⊥) → ListsOutside leasts mosts low high
-  low-short : low < leasts → ListsOutside leasts mosts low high
-  high-short : high < leasts → ListsOutside leasts mosts low high
+-- "unequal lists 22"
+abbrev pub ListsDiffer : List ℤ → List ℤ → Type 0
+ListsDiffer ds Ds = length Ds ≡ length ds → ⊥
+
+-- "short output list 23"
+abbrev pub ShortForDelays : List ℤ → List ℤ → List ℤ → Type 0
+ShortForDelays ds low high = (length low < length ds) ⊎ (length high < length ds)
 
 -- "a delay is out of range, or d > D"
 pub record EntryOutside (ds Ds : List ℤ) (i : ℕ) : Type 0 where
   pub is-entry : i < length ds
   pub outside : DelaysOutside ds Ds i
 
--- "analysis 1, 2, 3, 4, 9": those of them that speak of delays, lent lists and the step
+-- "analysis 1, 2, 3, 4, 9", with "21, 22, 24, 23 where 1 stood": those of them that speak of delays, lent lists and the step
 abbrev pub roundingChecks : ℕ → List ℤ → List ℤ → List ℤ → List ℤ → List Check
-roundingChecks q ds Ds low high = check 1 (AtZero (ListsOutside (length ds) (length Ds) (length low) (length high))) ∷ check 3 (Lowest (EntryOutside ds Ds)) ∷ check 9 (StepOutside q) ∷ []
+roundingChecks q ds Ds low high =
+    check 22 (AtZero (ListsDiffer ds Ds)) ∷ check 23 (AtZero (ShortForDelays ds low high)) ∷ check 3 (Lowest (EntryOutside ds Ds)) ∷ check 9 (StepOutside q) ∷ []
 
 -- "places beyond keep what they held"; refused, "every lent list keeps its contents"
 pub record DelaysRounded (q : ℕ) (ds Ds low₀ high₀ low high : List ℤ) (r : Refusal) : Type 0 where

@@ -6,13 +6,14 @@
 // No caller is trusted: every list, length and number gets an answer. The promises are in specs/Promise.antt.
 ghost use mathlib.Core.Path.{_≡_};
 ghost use mathlib.Core.Bool.{true, false};
+ghost use mathlib.Core.Logic.{_⊎_};
 ghost use Prim.Native.Nat.{ℕ, _<_, _≤_};
 ghost use lib.IntN.{pos};
 ghost use lib.ListN.{length, getD};
 ghost use Rattle.integers.specs.Within.{Within};
 ghost use Rattle.sequences.specs.Filled.{Filled};
 ghost use Rattle.rounding.specs.Rounding.{Down, Up};
-ghost use Rattle.rounding.specs.Promise.{StepOutside, Roundable, WentDown, WentUp, ListsOutside, DelaysRounded};
+ghost use Rattle.rounding.specs.Promise.{StepOutside, Roundable, WentDown, WentUp, DelaysRounded};
 ghost use Rattle.rounding.specs.Parts.Beside.{Beside};
 use refusals::Refusal;
 
@@ -95,18 +96,15 @@ pub fn round_up(x: i64, step: usize) -> i64
     x
 }
 
-// Whether lists of so many least and most delays differ in length, or a lent list of so many places is too short.
-fn lists_outside(leasts: usize, mosts: usize, low: usize, high: usize) -> bool
-    ensures { λ r. ⌜ (r ≡ true → ListsOutside leasts mosts low high) ⌝ }
-    ensures { λ r. ⌜ (r ≡ false → (mosts ≡ leasts) × (leasts ≤ low) × (leasts ≤ high)) ⌝ }
+// Whether a lent list of `low` or of `high` places is too short for so many delays.
+fn too_short(delays: usize, low: usize, high: usize) -> bool
+    ensures { λ r. ⌜ (r ≡ true → (low < delays) ⊎ (high < delays)) ⌝ }
+    ensures { λ r. ⌜ (r ≡ false → (delays ≤ low) × (delays ≤ high)) ⌝ }
 {
-    if mosts != leasts {
+    if low < delays {
         return true;
     }
-    if low < leasts {
-        return true;
-    }
-    if high < leasts {
+    if high < delays {
         return true;
     }
     false
@@ -137,9 +135,15 @@ pub fn round_delays(
 ) -> Refusal
     ensures { λ r. ⌜ DelaysRounded q (now (leasts .entry)) (now (mosts .entry)) (now (low .entry)) (now (high .entry)) (now (low .exit)) (now (high .exit)) r ⌝ }
 {
-    if lists_outside(leasts.len(), mosts.len(), low.len(), high.len()) {
+    if mosts.len() != leasts.len() {
         return Refusal {
-            number: 1,
+            number: 22,
+            place: 0,
+        };
+    }
+    if too_short(leasts.len(), low.len(), high.len()) {
+        return Refusal {
+            number: 23,
             place: 0,
         };
     }

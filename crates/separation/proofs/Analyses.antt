@@ -3,16 +3,15 @@
 --     answer-found      so is what it found, with U(t) read off the list
 -- Assumes nothing.
 use mathlib.Core.Path.{_≡_, refl, sym, subst, subst₂, _∙_}
-use mathlib.Core.Logic.{_⊎_, inl, ⊎-elim}
-use mathlib.Core.List.{List, [], _∷_}
+use mathlib.Core.List.{List, [], _∷_, _++_}
 use Prim.Native.Nat.{ℕ, _<_}
 use native.Mathlib.Omega.{arith}
 use lib.IntN.{ℤ}
 use lib.ListN.{length}
-use Rattle.verdicts.specs.Verdict.{check, AtZero, Lowest, FirstOf}
-use Rattle.verdicts.proofs.Verdicts.{more-alike, alike-refl, then-alike}
+use Rattle.verdicts.specs.Verdict.{Check, check, passed, AtZero, FirstThen, FirstOf}
+use Rattle.verdicts.proofs.Verdicts.{misses-at-zero, holds-not, rest-of, then-more-after}
 use Rattle.graphs.specs.Graph.{Graph}
-use Rattle.graphs.specs.Refusal.{CountsOutside, many-events, UnknownEvent, DelayBeyond, MissingEnd, pathChecks}
+use Rattle.graphs.specs.Refusal.{many-events, MissingEnd, countChecks, ruleChecks, pathChecks}
 use Rattle.refusals.specs.Question.{delayLimit}
 use Rattle.analysis.specs.declared.Analysis.{Analysis}
 use Rattle.analysis.specs.Promise.{AnalysisVerdict, Analysed}
@@ -20,22 +19,16 @@ use Rattle.separation.specs.declared.Answer.{Answer}
 use Rattle.separation.specs.Promise.{Nothing, at}
 use Rattle.separation.specs.Parts.Answers.{AnswerAnalysed}
 
-module _ {g : Graph} (us : List ℤ) (long : length us ≡ 1024) where
-  counted : (p : ℕ) → AtZero (CountsOutside g ⊎ (length us < g .events)) p → AtZero (CountsOutside g ⊎ ⊥) p
-  counted p x =
-      record {
-        zero-place = x .zero-place;
-        holds = ⊎-elim (λ (o : CountsOutside g). inl o) (λ (l : length us < g .events). inl (many-events (omega (arith, long)))) (x .holds);
-      }
-
-  counted-back : (p : ℕ) → AtZero (CountsOutside g ⊎ ⊥) p → AtZero (CountsOutside g ⊎ (length us < g .events)) p
-  counted-back p x = record { zero-place = x .zero-place; holds = ⊎-elim (λ (o : CountsOutside g). inl o) (λ (none : ⊥). absurd none) (x .holds) }
-
-  room-counted : (limit : ℕ) {s t j p : ℕ} → AnalysisVerdict limit g s t (length us < g .events) j p → AnalysisVerdict limit g s t ⊥ j p
-  room-counted limit {s} {t} {j} {p} v =
-      then-alike
-      (more-alike counted counted-back (alike-refl (check 2 (Lowest (UnknownEvent g)) ∷ check 3 (Lowest (DelayBeyond (delayLimit limit) g)) ∷ check 4 (MissingEnd g s t) ∷ [])))
-      (FirstOf (pathChecks g)) j p v
+-- where refusal 21 does not apply, there are no more than 1,024 events
+room-counted : {g : Graph} (us : List ℤ) → length us ≡ 1024 → (limit : ℕ) {s t j p : ℕ} → AnalysisVerdict limit g s t (length us < g .events) j p → AnalysisVerdict limit g s t ⊥ j p
+room-counted {g} us long limit {s} {t} {j} {p} =
+    then-more-after (countChecks 1024 4096 g) (FirstThen (check 23 (AtZero (length us < g .events)) ∷ after) (FirstOf (pathChecks g))) (FirstThen (check 23 (AtZero ⊥) ∷ after) (FirstOf (pathChecks g))) j p
+    (λ none v.
+    passed (misses-at-zero (λ never. never))
+    (rest-of (check 23 (AtZero (length us < g .events)) ∷ []) (FirstThen after (FirstOf (pathChecks g))) j p (misses-at-zero (λ l. holds-not (none .0) (many-events (omega (arith, long)))), tt) v))
+  where
+    after : List Check
+    after = ruleChecks (delayLimit limit) g ++ (check 4 (MissingEnd g s t) ∷ [])
 
 module _ {limit : ℕ} {g : Graph} {s t : ℕ} {us₀ us : List ℤ} {x : Analysis} (long : length us₀ ≡ 1024) (analysed : Analysed limit g s t us₀ us x) where
   pub answer-refused : {a : Answer} → (x .refusal ≡ 0 → ⊥) → (a .refusal ≡ x .refusal) × (a .place ≡ x .place) × Nothing a → AnswerAnalysed limit g s t us a

@@ -2,7 +2,7 @@
 --     rounding-passed, step-verdict    of a question that is kept, the rounding can refuse the step alone
 --     step-in                where it refuses nothing, q is from 1 to 1,000
 --     rounded-lists          the front parts of the two rounded lists make the rounded graph
---     path-verdict-same      refusals 5 and 6 speak of paths alone, so they are the same of the rounded graph
+--     lowest-same, path-verdict-same    refusals 5 and 6 speak of paths alone, so they are the same of the rounded graph
 --     step-kept              a step from 1 to 1,000 is not refused
 --     coarse-refused         an input that is refused is answered
 --     coarse-step-refused    so is a step that is refused
@@ -19,6 +19,7 @@ use lib.Seq.{length-take-le, getD-take}
 use Rattle.verdicts.specs.Verdict.{check, passed, Accepted, AtZero, Lowest, FirstOf}
 use Rattle.verdicts.proofs.Verdicts.{NoneApplies, none-alike, more-alike, then-alike, then-more, rest-of, passed-all, front-given, accepted-none}
 use Rattle.graphs.specs.Graph.{Graph, graphOf, rules}
+use Rattle.graphs.specs.Path.{OnCycle}
 use Rattle.graphs.specs.Limits.{Sized, EventGraph}
 use Rattle.graphs.specs.Refusal.{Unreached, questionChecks, questionChecksTo, pathChecks}
 use Rattle.refusals.specs.declared.Refusal.{Refusal}
@@ -26,10 +27,10 @@ use Rattle.refusals.specs.Faults.{DelaysInside}
 use Rattle.refusals.proofs.Question.{QuestionKept, kept-none}
 use Rattle.graphs.proofs.Limits.{sound-of}
 use Rattle.executions.specs.Separation.{Separation, SameRules}
-use Rattle.executions.proofs.Same.{same-exchanged, path-same, cycle-same, depth-same}
+use Rattle.executions.proofs.Same.{same-exchanged, path-same, on-cycle-same, cycle-same, depth-same}
 use Rattle.executions.proofs.Schedules.{separation-of}
 use Rattle.rounding.specs.Rounding.{Down, Up, Rounded}
-use Rattle.rounding.specs.Promise.{StepOutside, ListsOutside, EntryOutside, roundingChecks, DelaysRounded}
+use Rattle.rounding.specs.Promise.{StepOutside, ListsDiffer, ShortForDelays, EntryOutside, roundingChecks, DelaysRounded}
 use Rattle.rounding.proofs.Promises.{Room, lists-kept, inside-kept, step-kept}
 use Rattle.rounding.proofs.Costs.{rounded-sized}
 use Rattle.analysis.proofs.Arranging.{sized-up}
@@ -41,7 +42,7 @@ use Rattle.separation.specs.Parts.Answers.{AnswerFound, AnswerAnalysed}
 -- ---- the rounding
 
 module _ {n : ℕ} {ss ts : List ℕ} {ds Ds : List ℤ} (low₀ high₀ : List ℤ) (sized : Sized 1000000 (graphOf n ss ts ds Ds)) (low-long : length low₀ ≡ 4096) (high-long : length high₀ ≡ 4096) where
-  lists-none : NoneApplies (check 1 (AtZero (ListsOutside (length ds) (length Ds) (length low₀) (length high₀))) ∷ check 3 (Lowest (EntryOutside ds Ds)) ∷ [])
+  lists-none : NoneApplies (check 22 (AtZero (ListsDiffer ds Ds)) ∷ check 23 (AtZero (ShortForDelays ds low₀ high₀)) ∷ check 3 (Lowest (EntryOutside ds Ds)) ∷ [])
   lists-none =
       let counts = sized .counts in
       let few : length ds ≤ 4096 = subst (λ (k : ℕ). k ≤ 4096) (sym (counts .leasts-match)) (counts .few-rules) in
@@ -50,11 +51,12 @@ module _ {n : ℕ} {ss ts : List ℕ} {ds Ds : List ℤ} (low₀ high₀ : List 
       let d = sized .delays i (subst (λ (k : ℕ). i < k) (counts .leasts-match) l) in
       record { least-within = d .least-within; most-within = d .most-within; ordered = d .ordered }
       in
-      (lists-kept (record { as-many = counts .mosts-match ∙ sym (counts .leasts-match); low-long = omega arith; high-long = omega arith }), (inside-kept inside, tt))
+      let (differ, (short, _)) = lists-kept ds Ds low₀ high₀ (record { as-many = counts .mosts-match ∙ sym (counts .leasts-match); low-long = omega arith; high-long = omega arith }) in
+      (differ, (short, (inside-kept inside, tt)))
 
   rounding-passed : {q j p : ℕ} → FirstOf (roundingChecks q ds Ds low₀ high₀) j p → FirstOf (check 9 (StepOutside q) ∷ []) j p
   rounding-passed {q} {j} {p} v =
-      rest-of (check 1 (AtZero (ListsOutside (length ds) (length Ds) (length low₀) (length high₀))) ∷ check 3 (Lowest (EntryOutside ds Ds)) ∷ []) (FirstOf (check 9 (StepOutside q) ∷ [])) j p lists-none v
+      rest-of (check 22 (AtZero (ListsDiffer ds Ds)) ∷ check 23 (AtZero (ShortForDelays ds low₀ high₀)) ∷ check 3 (Lowest (EntryOutside ds Ds)) ∷ []) (FirstOf (check 9 (StepOutside q) ∷ [])) j p lists-none v
 
   pub step-verdict : {q : ℕ} {low high : List ℤ} {r : Refusal} → DelaysRounded q ds Ds low₀ high₀ low high r → FirstOf (check 9 (StepOutside q) ∷ []) (r .number) (r .place)
   step-verdict rounded = rounding-passed (rounded .verdict)
@@ -90,20 +92,24 @@ module _ {g h : Graph} (same : SameRules g h) where
   unreached-same u =
       record { is-event = omega (arith, u .is-event, same .events-same); no-path = λ p. u .no-path (path-same (same-exchanged same) p .0) }
 
-module _ {g h : Graph} (same : SameRules g h) where
-  lowest-same : {p : ℕ} → Lowest (Unreached h) p → Lowest (Unreached g) p
-  lowest-same u = record { holds = unreached-same same (u .holds); lowest = λ q l x. u .lowest q l (unreached-same (same-exchanged same) x) }
+-- what holds of the same events of both has the same lowest one
+lowest-same : {A B : ℕ → Type 0} → ((v : ℕ) → A v → B v) → ((v : ℕ) → B v → A v) → (p : ℕ) → Lowest A p → Lowest B p
+lowest-same to from p a = record { holds = to p (a .holds); lowest = λ q l x. a .lowest q l (from q x) }
 
-  lowest-back : {p : ℕ} → Lowest (Unreached g) p → Lowest (Unreached h) p
-  lowest-back u =
-      record { holds = unreached-same (same-exchanged same) (u .holds); lowest = λ q l x. u .lowest q l (unreached-same same x) }
+pub path-verdict-same : {g h : Graph} → SameRules g h → {j p : ℕ} → PathVerdict h j p → PathVerdict g j p
+path-verdict-same {g} {h} same {j} {p} v = then-alike (more-alike (lowest-same on on-back) (lowest-same on-back on) (more-alike (lowest-same un un-back) (lowest-same un-back un) none-alike)) Accepted j p v
+  where
+    on : (u : ℕ) → OnCycle h u → OnCycle g u
+    on u = on-cycle-same same
 
-  pub path-verdict-same : {j p : ℕ} → PathVerdict h j p → PathVerdict g j p
-  path-verdict-same {j} {p} v =
-      then-alike
-      (more-alike (λ q c. record { zero-place = c .zero-place; holds = cycle-same same (c .holds) })
-      (λ q c. record { zero-place = c .zero-place; holds = cycle-same (same-exchanged same) (c .holds) })
-      (more-alike (λ q u. lowest-same u) (λ q u. lowest-back u) none-alike)) Accepted j p v
+    on-back : (u : ℕ) → OnCycle g u → OnCycle h u
+    on-back u = on-cycle-same (same-exchanged same)
+
+    un : (u : ℕ) → Unreached h u → Unreached g u
+    un u = unreached-same same
+
+    un-back : (u : ℕ) → Unreached g u → Unreached h u
+    un-back u = unreached-same (same-exchanged same)
 
 -- ---- the answers
 

@@ -1,5 +1,5 @@
 -- From what the parts promise to the promises of the exact functions.
---     answered-too-short    lists that are too short are refused
+--     answered-counts, answered-too-short    counts outside their limits and lists that are too short are refused
 --     answered-analysed     what the analysis answers is the answer: U at t is the greatest separation
 --     lists-refused         a refusal leaves both lists as they were
 --     lists-written         what `write_times` and `write_delays` wrote is the schedule
@@ -12,9 +12,14 @@ use lib.IntN.{ℤ, pos}
 use native.Mathlib.Omega.{arith}
 use lib.ListN.{length}
 use Rattle.sequences.specs.Filled.{Filled}
-use Rattle.verdicts.specs.Verdict.{given}
+use Rattle.verdicts.specs.Verdict.{given, passed, FirstOf}
+use Rattle.verdicts.proofs.Verdicts.{at-zero}
 use Rattle.graphs.specs.Graph.{Graph, graphOf, rules}
+use Rattle.graphs.specs.Limits.{CountsKept}
+use Rattle.graphs.specs.Refusal.{countChecks}
 use Rattle.graphs.proofs.Limits.{sound-of}
+use Rattle.graphs.proofs.Refusals.{events-miss, rules-miss}
+use Rattle.refusals.proofs.Counts.{counts-given}
 use Rattle.executions.specs.Separation.{Separation}
 use Rattle.executions.specs.Schedule.{Latest}
 use Rattle.executions.proofs.Schedules.{separation-of, greatest-delay-of, schedule-of}
@@ -24,13 +29,20 @@ use Rattle.separation.specs.Parts.Answers.{AnswerFound, AnswerAnalysed}
 use Rattle.separation.specs.Parts.Lists.{TimeAt, DelayAt}
 
 module _ {g : Graph} {s t : ℕ} {a : Answer} where
-  pub answered-too-short : {Short : Type 0} → Short → (a .refusal ≡ 1) × (a .place ≡ 0) × Nothing a → Answered g s t Short a
-  answered-too-short {Short} short r =
+  answered-refused : {Short : Type 0} (k : ℕ) → (k ≡ 0 → ⊥) → (a .refusal ≡ k) × (a .place ≡ 0) × Nothing a → Verdict g s t Short k 0 → Answered g s t Short a
+  answered-refused {Short} k some r v =
       record {
-        verdict = subst₂ (Verdict g s t Short) (sym (r .0)) (sym (r .1)) (given (record { zero-place = refl; holds = inr short }));
-        found = λ e. absurd (let none : ⊥ = omega (arith, r .0) in none);
+        verdict = subst₂ (Verdict g s t Short) (sym (r .0)) (sym (r .1)) v;
+        found = λ e. absurd (some (sym (r .0) ∙ e));
         nothing = λ _. r .2;
       }
+
+  pub answered-counts : {Short : Type 0} (k : ℕ) → (k ≡ 0 → ⊥) → FirstOf (countChecks 1024 4096 g) k 0 → (a .refusal ≡ k) × (a .place ≡ 0) × Nothing a → Answered g s t Short a
+  answered-counts k some v r = answered-refused k some r (counts-given _ some v)
+
+  pub answered-too-short : {Short : Type 0} → CountsKept g → Short → (a .refusal ≡ 23) × (a .place ≡ 0) × Nothing a → Answered g s t Short a
+  answered-too-short counts short r =
+      answered-refused 23 (λ e. let none : ⊥ = omega arith in none) r (passed (events-miss counts) (passed (rules-miss counts) (given (at-zero short))))
 
   module _ {us : List ℤ} where
     found-of : AnswerFound 1000000 g s t us a → Found g s t a

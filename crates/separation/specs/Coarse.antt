@@ -1,5 +1,5 @@
 -- The promise of the coarse form. Document 01, sections "Coarse form" and "Refusal numbers"; demand 3, second sentence.
---     CoarseVerdict g q s t   == the refusals 1, 2, 3, 4, 9, 5, 6, in this order
+--     CoarseVerdict g q s t   == the refusals 21, 22, 2, 3, 4, 9, 5, 6, in this order
 --     CoarseFound g q s t a   == the values of an answer that is no refusal
 --     CoarseAnswered g q s t a == a is the answer: the verdict's number and place, and the values where nothing is refused
 -- `StepOutside`, refusal 9, is in rounding/specs/Promise.antt. That the answer is never below the exact maximum, and how far above it may be, is proved in proofs/CoarsePromises.antt. Assumes nothing.
@@ -16,7 +16,7 @@ use Rattle.rounding.specs.Promise.{StepOutside}
 use Rattle.separation.specs.declared.Answer.{Answer}
 use Rattle.separation.specs.Promise.{InputVerdict, Nothing}
 
--- "analysis 1, 2, 3, 4, 9 (coarse form only), 5, 6"; no list is lent
+-- "analysis 1, 2, 3, 4, 9 (coarse form only), 5, 6", with "21, 22, 24, 23 where 1 stood"; no list is lent
 abbrev pub CoarseVerdict : Graph → ℕ → ℕ → ℕ → ℕ → ℕ → Type 0
 CoarseVerdict g q s t = InputVerdict g s t ⊥ (FirstOf (check 9 (StepOutside q) ∷ pathChecks g))
 

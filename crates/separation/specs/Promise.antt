@@ -1,8 +1,8 @@
--- The promises of the public functions. Document 01, sections "Executions" and "Refusal numbers"; demands 1 and 2.
+-- The promises of the public functions. Document 01, sections "Executions" and "Refusal numbers"; demands 1 and 2; 02, wish 3.
 --     ShortLists g times delays == a lent list is too short: "The time list needs n places, the delay list r places"
---     InputVerdict g s t Short Rest == refusals 1 to 4, in 01's order, then Rest; Short says when a lent list is too short
+--     InputVerdict g s t Short Rest == refusals 21, 22, 23, 2, 3, 4, in this order, then Rest; Short says when a lent list is too short
 --     PathVerdict g             == refusals 5 and 6
---     Verdict g s t Short       == the refusals 1 to 6
+--     Verdict g s t Short       == all these refusals
 --     Found g s t a, Nothing a  == the values of an answer that is none, and of one that is a refusal
 --     Answered g s t Short a    == a is the answer: the verdict's number and place, and the values where nothing is refused
 --     at xs v                   == what stands at place v of a list of times or delays
@@ -26,7 +26,7 @@ use Rattle.separation.specs.declared.Answer.{Answer}
 abbrev pub ShortLists : Graph → List ℤ → List ℤ → Type 0
 ShortLists g times delays = (length times < g .events) ⊎ (length delays < rules g)
 
--- "analysis 1, 2, 3, 4, … 5, 6": the refusals of what is handed in, which leave the rest to Rest, and those of the paths
+-- "analysis 1, 2, 3, 4, … 5, 6", with "21, 22, 24, 23 where 1 stood" (02, wish 3): the refusals of what is handed in, which leave the rest to Rest, and those of the paths
 abbrev pub InputVerdict : Graph → ℕ → ℕ → Type 0 → (ℕ → ℕ → Type 0) → ℕ → ℕ → Type 0
 InputVerdict g s t Short Rest = FirstThen (questionChecks g s t Short) Rest
 

@@ -17,6 +17,10 @@ use crate::lists::too_short;
 use crate::lists::write_delays;
 use crate::lists::write_times;
 
+const MAX_EVENTS: usize = 1024;
+
+const MAX_RULES: usize = 4096;
+
 const MAX_DELAY: usize = 1000000;
 
 // The answer to a question of separation. `refusal` is 0, or the number of document 01's table, with its place.
@@ -70,8 +74,12 @@ pub fn schedule(
     ensures { λ r. ⌜ Answered (graphOf n (now (sources .entry)) (now (targets .entry)) (now (leasts .entry)) (now (mosts .entry))) s t (ShortLists (graphOf n (now (sources .entry)) (now (targets .entry)) (now (leasts .entry)) (now (mosts .entry))) (now (times .entry)) (now (delays .entry))) r ⌝ }
     ensures { λ r. ⌜ Written (graphOf n (now (sources .entry)) (now (targets .entry)) (now (leasts .entry)) (now (mosts .entry))) s r (now (times .entry)) (now (delays .entry)) (now (times .exit)) (now (delays .exit)) ⌝ }
 {
+    let counts = refusals::check_counts(MAX_EVENTS, MAX_RULES, n, sources, targets, leasts, mosts);
+    if counts != 0 {
+        return refused(counts, 0);
+    }
     if too_short(times.len(), n, delays.len(), sources.len()) {
-        return refused(1, 0);
+        return refused(23, 0);
     }
     let mut latest = [0i64; 1024];
     let answer = analysed(

@@ -4,13 +4,14 @@
 --     row-refused, row-answered   what one row's function promises, from the promises of the analysis and of the copying
 --     RowsDone                    the first k rows are filled, all other places are kept; the graph is accepted where a row is filled
 --     rows-none, rows-more        a loop that fills one row a turn
---     table-large                 too large, the table is refused with 1
---     not-large, table-alone      else the graph's verdict is the table's
+--     TableSmall                  the graph is small, and the lent table long enough
+--     table-counts, table-short   else the table is refused with 21, 22 or 23
+--     table-alone                 where it is so the graph's verdict is the table's
 --     table-refused, table-done   what the table's function promises then
 -- A graph is refused at row 0 or never, since its verdict is one and the same for each row: so what is refused has left no row behind. Assumes nothing.
 use mathlib.Core.Path.{_≡_, refl, sym, subst, subst₂, _∙_}
-use mathlib.Core.Logic.{_⊎_, inl, inr, ⊎-elim}
-use mathlib.Core.List.{List, [], _∷_}
+use mathlib.Core.Logic.{inl, inr}
+use mathlib.Core.List.{List, [], _∷_, _++_}
 use Prim.Native.Nat.{ℕ, _+_, _*_, _<_, _≤_}
 use native.Mathlib.Decide.{ℕ-discrete}
 use native.Mathlib.Omega.{arith}
@@ -19,18 +20,19 @@ use lib.ListN.{length, set, length-set}
 use lib.Seq.{getD-set-same, getD-set-other}
 use borrow.Author.Count.{below-none, below-more}
 use Rattle.integers.specs.Within.{Within}
-use Rattle.verdicts.specs.Verdict.{given, FirstOf, AtZero}
-use Rattle.verdicts.proofs.Verdicts.{Alike, more-alike, alike-refl, then-alike}
+use Rattle.verdicts.specs.Verdict.{check, given, passed, FirstThen, FirstOf, AtZero}
+use Rattle.verdicts.proofs.Verdicts.{Misses, NoneApplies, at-zero, misses-at-zero, holds-not, passed-all, rest-of}
 use Rattle.graphs.specs.Graph.{Graph, rules}
 use Rattle.graphs.specs.Limits.{EventGraph}
-use Rattle.graphs.specs.Refusal.{CountsOutside, no-events, graphChecks, pathChecks, GraphVerdict}
+use Rattle.graphs.specs.Refusal.{EventsOutside, no-events, many-events, RulesOutside, many-rules, targets-differ, leasts-differ, mosts-differ, countChecks, ruleChecks, pathChecks, GraphVerdict}
 use Rattle.graphs.proofs.Refusals.{graph-alone, graph-place, graph-verdict-unique}
+use Rattle.refusals.proofs.Counts.{counts-given, counts-in}
 use Rattle.executions.specs.Separation.{Separation}
 use Rattle.executions.proofs.Sizes.{times-within}
 use Rattle.separation.specs.declared.Answer.{Answer}
 use Rattle.separation.specs.Promise.{at, Answered, Written, ShortLists}
 use Rattle.table.specs.declared.TableAnswer.{TableAnswer}
-use Rattle.table.specs.Table.{entry, RowFilled, RowsFilled, OthersKept, TooLarge, many-events, many-rules, short-table, tableChecks, TableVerdict, TableAnswered}
+use Rattle.table.specs.Table.{entry, RowFilled, RowsFilled, OthersKept, ShortTable, TableVerdict, TableAnswered}
 use Rattle.table.specs.Parts.Rows.{RowKept, RowCopied, RowAnswered}
 
 -- ---- one row copied
@@ -139,54 +141,53 @@ module _ {g : Graph} {k : ℕ} {a : Answer} {table₀ table table′ : List ℤ}
 
 -- ---- the table
 
+pub record TableSmall (g : Graph) (table₀ : List ℤ) : Type 0 where
+  pub none : NoneApplies (countChecks 64 1024 g)
+  pub room : g .events * 64 ≤ length table₀
+
 module _ {g : Graph} {table₀ : List ℤ} where
-  pub table-large : (g .events ≡ 0) ⊎ ((64 < g .events) ⊎ ((1024 < rules g) ⊎ (length table₀ < g .events * 64))) → TableAnswered g table₀ (record { refusal = 1; place = 0 }) table₀
-  table-large which =
-      record {
-        verdict = given (record { zero-place = refl; holds = by which });
-        graph = λ e. absurd (let no : ⊥ = omega arith in no);
-        filled = λ e. absurd (let no : ⊥ = omega arith in no);
-        others = λ e. absurd (let no : ⊥ = omega arith in no);
-        kept = λ _. refl;
-      }
-    where
-      by : (g .events ≡ 0) ⊎ ((64 < g .events) ⊎ ((1024 < rules g) ⊎ (length table₀ < g .events * 64))) → CountsOutside g ⊎ TooLarge g table₀
-      by (inl e) = inl (no-events e)
-      by (inr (inl l)) = inr (many-events l)
-      by (inr (inr (inl l))) = inr (many-rules l)
-      by (inr (inr (inr l))) = inr (short-table l)
+  front-refused : (k : ℕ) → (k ≡ 0 → ⊥) → TableVerdict g table₀ k 0 → TableAnswered g table₀ (record { refusal = k; place = 0 }) table₀
+  front-refused k some v = record { verdict = v; graph = λ e. absurd (some e); filled = λ e. absurd (some e); others = λ e. absurd (some e); kept = λ _. refl }
 
-  pub not-large : g .events ≤ 64 → rules g ≤ 1024 → g .events * 64 ≤ length table₀ → TooLarge g table₀ → ⊥
-  not-large few few-rules room (many-events l) = omega arith
-  not-large few few-rules room (many-rules l) = omega arith
-  not-large few few-rules room (short-table l) = omega arith
+  pub table-counts : (k : ℕ) → (k ≡ 0 → ⊥) → FirstOf (countChecks 64 1024 g) k 0 → TableAnswered g table₀ (record { refusal = k; place = 0 }) table₀
+  table-counts k some v = front-refused k some (counts-given _ some v)
 
-  -- then the refusals of a table are those of the graph alone
-  module _ (room : TooLarge g table₀ → ⊥) where
-    more-said : (p : ℕ) → AtZero (CountsOutside g) p → AtZero (CountsOutside g ⊎ TooLarge g table₀) p
-    more-said p a = record { zero-place = a .zero-place; holds = inl (a .holds) }
+  pub table-short : NoneApplies (countChecks 64 1024 g) → length table₀ < g .events * 64 → TableAnswered g table₀ (record { refusal = 23; place = 0 }) table₀
+  table-short none l = front-refused 23 (λ e. let no : ⊥ = omega arith in no) (passed (none .0) (passed (none .1 .0) (given (at-zero l))))
 
-    no-more : (p : ℕ) → AtZero (CountsOutside g ⊎ TooLarge g table₀) p → AtZero (CountsOutside g) p
-    no-more p a = record { zero-place = a .zero-place; holds = ⊎-elim (λ o. o) (λ l. absurd (room l)) (a .holds) }
+  module _ (small : TableSmall g table₀) where
+    -- the table's limits are less than the graph's
+    graph-counts : NoneApplies (countChecks 1024 4096 g)
+    graph-counts = (misses-at-zero no-21, (misses-at-zero no-22, tt))
+      where
+        no-21 : EventsOutside 1024 (g .events) → ⊥
+        no-21 (no-events e) = holds-not (small .none .0) (no-events e)
+        no-21 (many-events l) = holds-not (small .none .0) (many-events (omega arith))
 
+        no-22 : RulesOutside 4096 g → ⊥
+        no-22 (many-rules l) = holds-not (small .none .1 .0) (many-rules (omega arith))
+        no-22 (targets-differ d) = holds-not (small .none .1 .0) (targets-differ d)
+        no-22 (leasts-differ d) = holds-not (small .none .1 .0) (leasts-differ d)
+        no-22 (mosts-differ d) = holds-not (small .none .1 .0) (mosts-differ d)
+
+    long : Misses (AtZero (ShortTable g table₀))
+    long = misses-at-zero (λ l. omega (arith, small .room))
+
+    -- then the refusals of a table are those of the graph alone
     table-verdict : (j p : ℕ) → GraphVerdict g j p → TableVerdict g table₀ j p
     table-verdict j p v =
-        let same : Alike (graphChecks g) (tableChecks g table₀) = more-alike more-said no-more (alike-refl _) in
-        then-alike same (FirstOf (pathChecks g)) j p v
+        passed (small .none .0)
+        (passed (small .none .1 .0) (passed long (rest-of (countChecks 1024 4096 g) (FirstThen (ruleChecks 1000000 g) (FirstOf (pathChecks g))) j p graph-counts v)))
 
     pub table-alone : (j p : ℕ) → TableVerdict g table₀ j p → GraphVerdict g j p
     table-alone j p v =
-        let same : Alike (tableChecks g table₀) (graphChecks g) = more-alike no-more more-said (alike-refl _) in
-        then-alike same (FirstOf (pathChecks g)) j p v
-
-  module _ (small : (0 < g .events) × (g .events ≤ 64) × (rules g ≤ 1024) × (g .events * 64 ≤ length table₀)) where
-    room : TooLarge g table₀ → ⊥
-    room = not-large (small .1) (small .2) (small .3)
+        passed-all (countChecks 1024 4096 g) (FirstThen (ruleChecks 1000000 g) (FirstOf (pathChecks g))) j p graph-counts
+        (rest-of (countChecks 64 1024 g ++ (check 23 (AtZero (ShortTable g table₀)) ∷ [])) (FirstThen (ruleChecks 1000000 g) (FirstOf (pathChecks g))) j p (small .none .0, (small .none .1 .0, (long, tt))) v)
 
     pub table-refused : {k : ℕ} {a : Answer} {table table′ : List ℤ} → RowsDone g k table₀ table → RowAnswered g k a table table′ → (a .refusal ≡ 0 → ⊥) → TableAnswered g table₀ (record { refusal = a .refusal; place = a .place }) table′
     table-refused {a = a} d r n =
         record {
-          verdict = table-verdict room (a .refusal) (a .place) (r .verdict);
+          verdict = table-verdict (a .refusal) (a .place) (r .verdict);
           graph = λ e. absurd (n e);
           filled = λ e. absurd (n e);
           others = λ e. absurd (n e);
@@ -197,8 +198,8 @@ module _ {g : Graph} {table₀ : List ℤ} where
     table-done {k} {table} e d =
         let all : RowsDone g (g .events) table₀ table = subst (λ (m : ℕ). RowsDone g m table₀ table) e d in
         record {
-          verdict = table-verdict room 0 0 (all .accepted (small .0));
-          graph = λ _. all .graph (small .0);
+          verdict = table-verdict 0 0 (all .accepted (counts-in (small .none) .0));
+          graph = λ _. all .graph (counts-in (small .none) .0);
           filled = λ _. all .filled;
           others = λ _. all .others;
           kept = λ n. absurd (n refl);

@@ -25,7 +25,7 @@ use Rattle.table.specs.Table.{RowsFilled, OthersKept, tableChecks, Table
 
 pub table-verdict-unique : (g : Graph) (table₀ : List ℤ) → OneVerdict (TableVerdict g table₀)
 table-verdict-unique g table₀ =
-    then-unique (tableChecks g table₀) {Rest = FirstOf (pathChecks g)} (at-zero-unique, (lowest-unique, (lowest-unique, tt))) (one-verdict (pathChecks g) (path-places g))
+    then-unique (tableChecks g table₀) {Rest = FirstOf (pathChecks g)} (at-zero-unique, (at-zero-unique, (at-zero-unique, (lowest-unique, (lowest-unique, tt))))) (one-verdict (pathChecks g) (path-places g))
 
 -- ---- the table
 

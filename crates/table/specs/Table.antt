@@ -4,21 +4,20 @@
 --     RowFilled g s table     == row s of the table holds the separations from s
 --     RowsFilled g k table    == the first k rows do
 --     OthersKept n k table₀ table == every place outside the first n columns of the first k rows holds what it held
---     TooLarge g table₀       == the graph has more events or rules than the pair program's, or the lent table too few places
---     tableChecks g table₀    == refusals 1 to 3 of the graph, with TooLarge among refusal 1
---     TableVerdict g table₀   == the refusals of a table: 1, 2, 3, 5, 6
+--     ShortTable g table₀     == refusal 23: the lent table has too few places
+--     tableChecks g table₀    == refusals 21, 22, 23, 2 and 3, in this order, with the pair program's limits of events and rules
+--     TableVerdict g table₀   == the refusals of a table: these, 5 and 6
 --     TableAnswered g table₀ a table == a is the answer, and the lent table, which held table₀, holds table
 -- Assumes nothing.
 use mathlib.Core.Path.{_≡_}
-use mathlib.Core.Logic.{_⊎_}
-use mathlib.Core.List.{List, [], _∷_, _++_}
+use mathlib.Core.List.{List, _∷_, _++_}
 use Prim.Native.Nat.{ℕ, _+_, _*_, _<_}
 use lib.IntN.{ℤ, pos}
 use lib.ListN.{length, getD}
-use Rattle.verdicts.specs.Verdict.{Check, check, FirstOf, AtZero, Lowest}
-use Rattle.graphs.specs.Graph.{Graph, rules}
+use Rattle.verdicts.specs.Verdict.{Check, check, FirstOf, AtZero}
+use Rattle.graphs.specs.Graph.{Graph}
 use Rattle.graphs.specs.Limits.{EventGraph}
-use Rattle.graphs.specs.Refusal.{CountsOutside, UnknownEvent, DelayOutside, pathChecks}
+use Rattle.graphs.specs.Refusal.{countChecks, ruleChecks, pathChecks}
 use Rattle.executions.specs.Separation.{Separation}
 use Rattle.separation.specs.Promise.{at}
 use Rattle.table.specs.declared.TableAnswer.{TableAnswer}
@@ -38,14 +37,13 @@ pub record OthersKept (n k : ℕ) (table₀ table : List ℤ) : Type 0 where
   pub same-length : length table ≡ length table₀
   pub other : (i : ℕ) → ((s t : ℕ) → s < k → t < n → i ≡ s * 64 + t → ⊥) → at table i ≡ at table₀ i
 
--- "at most … 64 events and 1,024 rows"; "a lent output list is too short"
-pub data TooLarge (g : Graph) (table₀ : List ℤ) : Type 0 where
-  many-events : 64 < g .events → TooLarge g table₀
-  many-rules : 1024 < rules g → TooLarge g table₀
-  short-table : length table₀ < g .events * 64 → TooLarge g table₀
+-- 02: "short output list 23"
+abbrev pub ShortTable : Graph → List ℤ → Type 0
+ShortTable g table₀ = length table₀ < g .events * 64
 
+-- "at most … 64 events and 1,024 rows"
 abbrev pub tableChecks : Graph → List ℤ → List Check
-tableChecks g table₀ = check 1 (AtZero (CountsOutside g ⊎ TooLarge g table₀)) ∷ check 2 (Lowest (UnknownEvent g)) ∷ check 3 (Lowest (DelayOutside g)) ∷ []
+tableChecks g table₀ = countChecks 64 1024 g ++ (check 23 (AtZero (ShortTable g table₀)) ∷ ruleChecks 1000000 g)
 
 abbrev pub TableVerdict : Graph → List ℤ → ℕ → ℕ → Type 0
 TableVerdict g table₀ = FirstOf (tableChecks g table₀ ++ pathChecks g)

@@ -3,8 +3,6 @@
 //     fill_table    the greatest t(t) − t(s) of every two events s and t, or the refusal with its place
 // No caller is trusted. The promise is in specs/Table.antt.
 ghost use mathlib.Core.Path.{_≡_};
-ghost use mathlib.Core.Bool.{true, false};
-ghost use mathlib.Core.Logic.{_⊎_};
 ghost use Prim.Native.Nat.{ℕ, _*_, _<_, _≤_};
 ghost use lib.IntN.{pos};
 ghost use lib.ListN.{length, getD};
@@ -13,6 +11,11 @@ ghost use Rattle.graphs.specs.Graph.{graphOf};
 ghost use Rattle.table.specs.Table.{TableAnswered};
 ghost use Rattle.table.specs.Parts.Rows.{RowCopied, RowAnswered};
 use separation::Answer;
+
+// What a table is for: the events and the rules of a text.
+const MAX_EVENTS: usize = 64;
+
+const MAX_RULES: usize = 1024;
 
 // The answer to a table. `refusal` is 0, or the number of document 01's table, with its place.
 pub struct TableAnswer {
@@ -68,23 +71,6 @@ fn fill_row(
     answer
 }
 
-// Whether there is no event, or more of them or of the rules than a table is for, or the lent table has too few places.
-fn too_large(n: usize, rules: usize, places: usize) -> bool
-    ensures { λ r. ⌜ (r ≡ true → (n ≡ 0) ⊎ ((64 < n) ⊎ ((1024 < rules) ⊎ (places < n * 64)))) ⌝ }
-    ensures { λ r. ⌜ (r ≡ false → (0 < n) × (n ≤ 64) × (rules ≤ 1024) × (n * 64 ≤ places)) ⌝ }
-{
-    if n == 0 {
-        return true;
-    }
-    if n > 64 {
-        return true;
-    }
-    if rules > 1024 {
-        return true;
-    }
-    places < n * 64
-}
-
 // The table, 64 places a row. All other places keep what they held; refused, all do.
 pub fn fill_table(
     n: usize,
@@ -96,9 +82,16 @@ pub fn fill_table(
 ) -> TableAnswer
     ensures { λ r. ⌜ TableAnswered (graphOf n (now (sources .entry)) (now (targets .entry)) (now (leasts .entry)) (now (mosts .entry))) (now (table .entry)) r (now (table .exit)) ⌝ }
 {
-    if too_large(n, sources.len(), table.len()) {
+    let counts = refusals::check_counts(MAX_EVENTS, MAX_RULES, n, sources, targets, leasts, mosts);
+    if counts != 0 {
         return TableAnswer {
-            refusal: 1,
+            refusal: counts,
+            place: 0,
+        };
+    }
+    if table.len() < n * 64 {
+        return TableAnswer {
+            refusal: 23,
             place: 0,
         };
     }

@@ -9,8 +9,8 @@
 --     written-inside          what write_pairs counts lies in the list
 --     written-length          the list keeps its length, since every output fits
 --     text-numbers            which refusals are given for a text, and pairs-numbers by the pair program
---     never-2, never-7, never-9       so these are not
---     number-small            and none is above 8
+--     never-2, never-7, never-9, never-23, never-24     so these are not
+--     number-small            and none is above 22
 --     found-within            a separation that is found is small
 --     entry-found, entry-refused      so the C entry's number is above −4,000,000,000 for a separation, and below for a refusal
 --     never-mistaken          and from the number alone the refusal is known
@@ -46,6 +46,7 @@ use Rattle.text.specs.Output.{ending, pairs, Lines, pairHeader, PairsVer
 use Rattle.text.specs.declared.PairsAnswer.{PairsAnswer}
 use Rattle.text.proofs.Texts.{text-unique}
 use Rattle.text.proofs.Unique.{verdict-unique}
+use Rattle.text.proofs.Handed.{no-lists}
 use Rattle.text.proofs.PairOrder.{lines-unique, refused-line-unique}
 use Rattle.text.proofs.Fitting.{output-fits}
 
@@ -113,7 +114,7 @@ module _ {bs : List ℕ} where
   pairs-unique {out₀} {out} {out′} {a} {b} x y = go (ℕ-discrete (a .refusal) 0)
     where
       same : (a .refusal ≡ b .refusal) × (a .place ≡ b .place)
-      same = one-verdict (check 1 (AtZero (ShortOutput out₀)) ∷ []) (at-zero-unique, tt) (a .refusal) (a .place) (b .refusal) (b .place) (x .verdict) (y .verdict)
+      same = one-verdict (check 23 (AtZero (ShortOutput out₀)) ∷ []) (at-zero-unique, tt) (a .refusal) (a .place) (b .refusal) (b .place) (x .verdict) (y .verdict)
 
       go : Dec (a .refusal ≡ 0) → (a ≡ b) × (out ≡ out′)
       go (yes e) =
@@ -141,7 +142,7 @@ written-length {bs} {out₀} {out} {a} x = go (ℕ-discrete (a .refusal) 0)
     go : Dec (a .refusal ≡ 0) → length out ≡ length out₀
     go (yes e) =
         let (output, o, count, bytes) = x .written e in
-        let ((long, _), _) = accepted-none (check 1 (AtZero (ShortOutput out₀)) ∷ []) Accepted (omega arith, tt) (a .refusal) (a .place) e (x .verdict) in
+        let ((long, _), _) = accepted-none (check 23 (AtZero (ShortOutput out₀)) ∷ []) Accepted (omega arith, tt) (a .refusal) (a .place) e (x .verdict) in
         let room : ShortOutput out₀ → ⊥ = λ short. long 0 (record { zero-place = refl; holds = short }) in
         omega (arith, ap length bytes, length-append output (drop (length output) out₀), length-drop (length output) out₀, output-fits o)
     go (no n) = ap length (x .kept n)
@@ -168,9 +169,10 @@ zero-of : (Q : ℕ → Type 0) {j p : ℕ} → Q 0 → Accepted j p → Q j
 zero-of Q z accepted = z
 
 -- what holds of 0 and of each number that a text's refusals have
-module _ (Q : ℕ → Type 0) (zero-kept : Q 0) (kept-1 : Q 1) (kept-3 : Q 3) (kept-5 : Q 5) (kept-6 : Q 6) (kept-8 : Q 8) where
+module _ (Q : ℕ → Type 0) (zero-kept : Q 0) (kept-1 : Q 1) (kept-3 : Q 3) (kept-5 : Q 5) (kept-6 : Q 6) (kept-8 : Q 8) (kept-21 : Q 21) (kept-22 : Q 22) where
   text-kept : {bs : List ℕ} {Rest : ℕ → ℕ → Type 0} {j p : ℕ} → (Rest j p → Q j) → TextVerdict bs NoLists Rest j p → Q j
-  text-kept {bs} {Rest} {j} {p} rest v = then-place (λ (k q : ℕ). Q k) (textChecks bs NoLists) Rest j p (λ q a. kept-1, (λ q a. kept-8, (λ q a. kept-1, tt))) rest v
+  text-kept {bs} {Rest} {j} {p} rest v =
+      then-place (λ (k q : ℕ). Q k) (textChecks bs NoLists) Rest j p (λ q a. kept-1, (λ q a. kept-8, (λ q a. kept-21, (λ q a. kept-22, (λ q a. absurd (no-lists q a), tt))))) rest v
 
   paths-kept : {g : Graph} {j p : ℕ} → FirstOf (pathChecks g) j p → Q j
   paths-kept {g} {j} {p} v = then-place (λ (k q : ℕ). Q k) (pathChecks g) Accepted j p (λ q a. kept-5, (λ q a. kept-6, tt)) (zero-of Q zero-kept) v
@@ -178,24 +180,24 @@ module _ (Q : ℕ → Type 0) (zero-kept : Q 0) (kept-1 : Q 1) (kept-3 : Q 3) (k
   question-kept : Q 4 → {bs : List ℕ} {s t j p : ℕ} → Asked bs s t j p → Q j
   question-kept kept-4 {s = s} {t} {j} {p} (rs, text, v) =
       then-place (λ (k q : ℕ). Q k) (questionChecks (graphOfRules rs) s t ⊥) (FirstOf (pathChecks (graphOfRules rs))) j p
-      (λ q a. kept-1, (no-unknown rs, (λ q a. kept-3, (λ q a. kept-4, tt)))) paths-kept v
+      (λ q a. kept-21, (λ q a. kept-22, (λ q a. absurd (a .holds), (no-unknown rs, (λ q a. kept-3, (λ q a. kept-4, tt)))))) paths-kept v
 
   graph-kept : {bs : List ℕ} {j p : ℕ} → (rs : List Rule) × Text bs rs × GraphVerdict (graphOfRules rs) j p → Q j
   graph-kept {j = j} {p} (rs, text, v) =
       then-place (λ (k q : ℕ). Q k) (graphChecks (graphOfRules rs)) (FirstOf (pathChecks (graphOfRules rs))) j p
-      (λ q a. kept-1, (no-unknown rs, (λ q a. kept-3, tt))) paths-kept v
+      (λ q a. kept-21, (λ q a. kept-22, (no-unknown rs, (λ q a. kept-3, tt)))) paths-kept v
 
 module _ {bs : List ℕ} {s t : ℕ} {a : Answer} (x : TextAnswered bs s t a) where
-  among-text : T (among (1 ∷ 3 ∷ 4 ∷ 5 ∷ 6 ∷ 8 ∷ []) (a .refusal))
+  among-text : T (among (1 ∷ 3 ∷ 4 ∷ 5 ∷ 6 ∷ 8 ∷ 21 ∷ 22 ∷ []) (a .refusal))
   among-text =
-      let Q : ℕ → Type 0 = λ j. T (among (1 ∷ 3 ∷ 4 ∷ 5 ∷ 6 ∷ 8 ∷ []) j) in
-      text-kept Q tt tt tt tt tt tt (question-kept Q tt tt tt tt tt tt tt) (x .verdict)
+      let Q : ℕ → Type 0 = λ j. T (among (1 ∷ 3 ∷ 4 ∷ 5 ∷ 6 ∷ 8 ∷ 21 ∷ 22 ∷ []) j) in
+      text-kept Q tt tt tt tt tt tt tt tt (question-kept Q tt tt tt tt tt tt tt tt tt) (x .verdict)
 
-  pub text-numbers : OneOf (a .refusal) (1 ∷ 3 ∷ 4 ∷ 5 ∷ 6 ∷ 8 ∷ [])
-  text-numbers = one-of (1 ∷ 3 ∷ 4 ∷ 5 ∷ 6 ∷ 8 ∷ []) (a .refusal) among-text
+  pub text-numbers : OneOf (a .refusal) (1 ∷ 3 ∷ 4 ∷ 5 ∷ 6 ∷ 8 ∷ 21 ∷ 22 ∷ [])
+  text-numbers = one-of (1 ∷ 3 ∷ 4 ∷ 5 ∷ 6 ∷ 8 ∷ 21 ∷ 22 ∷ []) (a .refusal) among-text
 
-  others : (k : ℕ) → a .refusal ≡ k → T (among (1 ∷ 3 ∷ 4 ∷ 5 ∷ 6 ∷ 8 ∷ []) k)
-  others k e = subst (λ (j : ℕ). T (among (1 ∷ 3 ∷ 4 ∷ 5 ∷ 6 ∷ 8 ∷ []) j)) e among-text
+  others : (k : ℕ) → a .refusal ≡ k → T (among (1 ∷ 3 ∷ 4 ∷ 5 ∷ 6 ∷ 8 ∷ 21 ∷ 22 ∷ []) k)
+  others k e = subst (λ (j : ℕ). T (among (1 ∷ 3 ∷ 4 ∷ 5 ∷ 6 ∷ 8 ∷ 21 ∷ 22 ∷ []) j)) e among-text
 
   pub never-2 : a .refusal ≡ 2 → ⊥
   never-2 e = others 2 e
@@ -206,17 +208,23 @@ module _ {bs : List ℕ} {s t : ℕ} {a : Answer} (x : TextAnswered bs s t a) wh
   pub never-9 : a .refusal ≡ 9 → ⊥
   never-9 e = others 9 e
 
-  pub number-small : a .refusal ≤ 8
+  pub never-23 : a .refusal ≡ 23 → ⊥
+  never-23 e = others 23 e
+
+  pub never-24 : a .refusal ≡ 24 → ⊥
+  never-24 e = others 24 e
+
+  pub number-small : a .refusal ≤ 22
   number-small =
-      let Q : ℕ → Type 0 = λ j. j ≤ 8 in
-      text-kept Q (omega arith) (omega arith) (omega arith) (omega arith) (omega arith) (omega arith)
-      (question-kept Q (omega arith) (omega arith) (omega arith) (omega arith) (omega arith) (omega arith) (omega arith)) (x .verdict)
+      let Q : ℕ → Type 0 = λ j. j ≤ 22 in
+      text-kept Q (omega arith) (omega arith) (omega arith) (omega arith) (omega arith) (omega arith) (omega arith) (omega arith)
+      (question-kept Q (omega arith) (omega arith) (omega arith) (omega arith) (omega arith) (omega arith) (omega arith) (omega arith) (omega arith)) (x .verdict)
 
 -- a pair program asks about no s and t
-pub pairs-numbers : {bs : List ℕ} {j p : ℕ} → PairsVerdict bs j p → OneOf j (1 ∷ 3 ∷ 5 ∷ 6 ∷ 8 ∷ [])
+pub pairs-numbers : {bs : List ℕ} {j p : ℕ} → PairsVerdict bs j p → OneOf j (1 ∷ 3 ∷ 5 ∷ 6 ∷ 8 ∷ 21 ∷ 22 ∷ [])
 pairs-numbers {j = j} v =
-    let Q : ℕ → Type 0 = λ j. T (among (1 ∷ 3 ∷ 5 ∷ 6 ∷ 8 ∷ []) j) in
-    one-of (1 ∷ 3 ∷ 5 ∷ 6 ∷ 8 ∷ []) j (text-kept Q tt tt tt tt tt tt (graph-kept Q tt tt tt tt tt tt) v)
+    let Q : ℕ → Type 0 = λ j. T (among (1 ∷ 3 ∷ 5 ∷ 6 ∷ 8 ∷ 21 ∷ 22 ∷ []) j) in
+    one-of (1 ∷ 3 ∷ 5 ∷ 6 ∷ 8 ∷ 21 ∷ 22 ∷ []) j (text-kept Q tt tt tt tt tt tt tt tt (graph-kept Q tt tt tt tt tt tt tt tt) v)
 
 -- ---- the C entry's number
 

@@ -91,6 +91,6 @@ output-fits {bs} (table rs lines v text are e) =
         subst (λ (rs : List Rule). GraphVerdict (graphOfRules rs) 0 0) (text-unique text′ text) v0
 output-fits (refused k p l v line) =
     let small = pairs-small v in
-    let number-places = natural-places 1 (omega arith) (omega (arith, small .number)) (line .number-written) in
+    let number-places = natural-places 2 (omega arith) (omega (arith, small .number)) (line .number-written) in
     let place-places = natural-places 5 (omega arith) (omega (arith, small .place)) (line .place-written) in
     rw (line .bytes) (simp length-append (omega (arith, number-places, place-places)))

@@ -1,4 +1,5 @@
 -- A text's rules as they are handed on: read into four lists of 1,024 places, and taken from there as a graph.
+--     no-lists        where no list is lent, 23 applies nowhere
 --     refused-on      what the reader refuses, every question about the text is refused for
 --     text-passed     number 0 is given past the reader, where none of its checks applies
 --     accepted-on     and there what follows decides
@@ -18,8 +19,8 @@ use lib.IntN.{ℤ}
 use lib.ListN.{length, take, drop, length-map, length-take}
 use lib.Seq.{take-at}
 use Rattle.graphs.specs.Graph.{Graph, graphOf}
-use Rattle.verdicts.specs.Verdict.{Accepted, AtZero}
-use Rattle.verdicts.proofs.Verdicts.{NoneApplies, Alike, passed-all, front-given, Refusals, accepted-none, more-alike, none-alike, then-alike}
+use Rattle.verdicts.specs.Verdict.{check, Accepted, FirstThen, AtZero}
+use Rattle.verdicts.proofs.Verdicts.{Misses, NoneApplies, Refusals, misses-at-zero, holds-not, passed-all, rest-of, then-more-after, not-accepted, accepted-none}
 use Rattle.separation.specs.declared.Answer.{Answer}
 use Rattle.separation.specs.Promise.{Verdict, Answered, Nothing}
 use Rattle.text.specs.declared.Reading.{Reading}
@@ -32,11 +33,8 @@ use Rattle.text.specs.Reading.{
   mostsOf,
   graphOfRules,
   ShortForRules,
-  Beyond,
-  many-events,
-  many-rows,
-  short-list,
-  CountsBeyond,
+  OfText,
+  textAlone,
   textChecks,
   TextVerdict,
   ReadOff,
@@ -47,47 +45,38 @@ use Rattle.text.specs.Answers.{NoLists, TextAnswered}
 
 -- ---- from one verdict to the next
 
-module _ {Short : List Rule → Type 0} where
-  no-lists : (rs : List Rule) → Beyond NoLists rs → Beyond Short rs
-  no-lists rs (many-events l) = many-events l
-  no-lists rs (many-rows l) = many-rows l
-  no-lists rs (short-list x) = absurd x
-
-  -- where a list is too short only for more than 1,024 rows
-  too-many : ((rs : List Rule) → Short rs → 1024 < length rs) → (rs : List Rule) → Beyond Short rs → Beyond NoLists rs
-  too-many room rs (many-events l) = many-events l
-  too-many room rs (many-rows l) = many-rows l
-  too-many room rs (short-list x) = many-rows (room rs x)
-
-counts-on : {bs : List ℕ} {A B : List Rule → Type 0} → ((rs : List Rule) → Beyond A rs → Beyond B rs) → (p : ℕ) → AtZero (CountsBeyond bs A) p → AtZero (CountsBeyond bs B) p
-counts-on f p a = record { zero-place = a .zero-place; holds = record { rs = a .holds .rs; text = a .holds .text; beyond = f (a .holds .rs) (a .holds .beyond) } }
-
 -- no check of a text has number 0
 text-refusals : (bs : List ℕ) (Short : List Rule → Type 0) → Refusals (textChecks bs Short)
-text-refusals bs Short = (omega arith, (omega arith, (omega arith, tt)))
+text-refusals bs Short = (omega arith, (omega arith, (omega arith, (omega arith, (omega arith, tt)))))
+
+-- no list is lent, so none is too short
+pub no-lists : {bs : List ℕ} → Misses (AtZero (OfText bs NoLists))
+no-lists = misses-at-zero (λ z. z .holds)
 
 module _ {bs : List ℕ} {Short : List Rule → Type 0} where
-  lists-alike : ((rs : List Rule) → Short rs → 1024 < length rs) → Alike (textChecks bs Short) (textChecks bs NoLists)
-  lists-alike room = more-alike (λ p a. a) (λ p a. a) (more-alike (λ p a. a) (λ p a. a) (more-alike (counts-on (too-many room)) (counts-on no-lists) none-alike))
-
+  -- where a list is too short only for more than 1,024 rows, it is 22 that is given
   pub refused-on : ((rs : List Rule) → Short rs → 1024 < length rs) → {Rest : ℕ → ℕ → Type 0} {j p : ℕ} → TextVerdict bs Short Accepted j p → (j ≡ 0 → ⊥) → TextVerdict bs NoLists Rest j p
-  refused-on room {Rest} {j} {p} v other = front-given (textChecks bs NoLists) Rest j p other (then-alike (lists-alike room) Accepted j p v)
+  refused-on room {Rest} {j} {p} v other =
+      then-more-after (textAlone bs) (FirstThen (check 23 (AtZero (OfText bs Short)) ∷ []) Accepted) (FirstThen (check 23 (AtZero (OfText bs NoLists)) ∷ []) Rest) j p
+      (λ none w.
+      not-accepted other
+      (rest-of (check 23 (AtZero (OfText bs Short)) ∷ []) Accepted j p
+      (misses-at-zero (λ z. holds-not (none .1 .1 .1 .0) (record { rs = z .rs; text = z .text; holds = room (z .rs) (z .holds) })), tt) w)) v
 
   pub text-passed : {Rest : ℕ → ℕ → Type 0} {j p : ℕ} → TextVerdict bs Short Rest j p → j ≡ 0 → NoneApplies (textChecks bs Short) × Rest j p
   text-passed {Rest} {j} {p} v e = accepted-none (textChecks bs Short) Rest (text-refusals bs Short) j p e v
 
   pub accepted-on : {Rest : ℕ → ℕ → Type 0} {i j p q : ℕ} → TextVerdict bs Short Accepted i q → i ≡ 0 → Rest j p → TextVerdict bs NoLists Rest j p
   accepted-on {Rest} {j = j} {p} v e r =
-      let ((bytes, (rows, (counts, _))), _) = text-passed v e in
-      passed-all (textChecks bs NoLists) Rest j p (bytes, (rows, (λ q a. counts q (counts-on no-lists q a), tt))) r
+      let ((bytes, (rows, (few, (few-rows, _)))), _) = text-passed v e in
+      passed-all (textChecks bs NoLists) Rest j p (bytes, (rows, (few, (few-rows, (no-lists, tt))))) r
 
   pub counts-small : {Rest : ℕ → ℕ → Type 0} {i q : ℕ} → TextVerdict bs Short Rest i q → i ≡ 0 → {rs : List Rule} → Text bs rs → (events rs ≤ 64) × (length rs ≤ 1024) × (Short rs → ⊥)
   counts-small v e {rs} text =
-      let ((_, (_, (counts, _))), _) = text-passed v e in
-      let beyond : Beyond Short rs → ⊥ = λ b. counts 0 (record { zero-place = refl; holds = record { rs = rs; text = text; beyond = b } }) in
-      let few : 64 < events rs → ⊥ = λ l. beyond (many-events l) in
-      let few-rows : 1024 < length rs → ⊥ = λ l. beyond (many-rows l) in
-      (omega arith, omega arith, λ x. beyond (short-list x))
+      let ((_, (_, (no-21, (no-22, (no-23, _))))), _) = text-passed v e in
+      let few : 64 < events rs → ⊥ = λ l. holds-not no-21 (record { rs = rs; text = text; holds = l }) in
+      let few-rows : 1024 < length rs → ⊥ = λ l. holds-not no-22 (record { rs = rs; text = text; holds = l }) in
+      (omega arith, omega arith, λ x. holds-not no-23 (record { rs = rs; text = text; holds = x }))
 
 -- ---- the lists after a reading
 
@@ -97,6 +86,7 @@ pub record Handed (bs : List ℕ) (a : Reading) (ss ts : List ℕ) (ds Ds : List
   pub event-count : a .events ≡ events rs
   pub few : a .events ≤ 64
   pub few-rows : a .rules ≤ 1024
+  pub few-rules : length rs ≤ 1024
   pub graph : graphOf (a .events) (take (a .rules) ss) (take (a .rules) ts) (take (a .rules) ds) (take (a .rules) Ds) ≡ graphOfRules rs
 
 held-graph : {rs : List Rule} {ss₀ ts₀ : List ℕ} {ds₀ Ds₀ : List ℤ} {ss ts : List ℕ} {ds Ds : List ℤ} {n m : ℕ} → ListsHold rs ss₀ ts₀ ds₀ Ds₀ ss ts ds Ds → n ≡ events rs → m ≡ length rs → graphOf n (take m ss) (take m ts) (take m ds) (take m Ds) ≡ graphOfRules rs
@@ -121,6 +111,7 @@ module _ {bs : List ℕ} {a : Reading} {ss₀ ts₀ : List ℕ} {ds₀ Ds₀ : L
         event-count = n;
         few = omega arith;
         few-rows = omega arith;
+        few-rules = few-rows;
         graph = held-graph (w .written e rs text) n m;
       }
 

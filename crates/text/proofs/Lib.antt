@@ -7,6 +7,7 @@ pub mod Unique
 pub mod Beginnings
 pub mod Progress
 pub mod Writing
+pub mod Counts
 pub mod Verdicts
 pub mod WrittenNumbers
 pub mod WrittenLines

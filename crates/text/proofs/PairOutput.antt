@@ -5,34 +5,36 @@
 --     read-refused-put  the line of a refusal of the reader's
 --     refused-put       and of one of the graph's
 --     table-put         the table
+--     text-counts       a text that is not refused has a graph as small as a table's
 -- Assumes nothing.
 use mathlib.Core.Path.{_≡_, refl, ap, sym, subst, subst₂, _∙_}
 use mathlib.Core.List.{List, [], _∷_, _++_}
-use Prim.Native.Nat.{ℕ, _+_, _≤_}
+use Prim.Native.Nat.{ℕ, _+_, _<_, _≤_}
 use native.Mathlib.Omega.{arith}
 use lib.IntN.{ℤ}
-use lib.ListN.{length, take, drop}
+use lib.ListN.{length, take, drop, length-map}
 use Rattle.graphs.specs.Graph.{Graph, graphOf}
 use Rattle.graphs.specs.Limits.{EventGraph}
-use Rattle.graphs.specs.Refusal.{GraphVerdict}
+use Rattle.graphs.specs.Refusal.{EventsOutside, no-events, many-events, RulesOutside, many-rules, targets-differ, leasts-differ, mosts-differ, countChecks, GraphVerdict}
 use Rattle.verdicts.specs.Verdict.{given, check, AtZero}
-use Rattle.verdicts.proofs.Verdicts.{none-accepted}
+use Rattle.verdicts.proofs.Verdicts.{NoneApplies, misses-at-zero, none-accepted}
 use Rattle.graphs.proofs.Refusals.{graph-place}
 use Rattle.text.specs.declared.Reading.{Reading}
+use Rattle.text.specs.Grammar.{Rule}
 use Rattle.text.specs.Reading.{events, graphOfRules, ShortForRules, ReadOff, RulesWritten}
 use Rattle.text.specs.Output.{pairs, ending, Lines, pairHeader, RefusedLine, PairsVerdict, Output, table, refused, outputPlaces, ShortOutput, PairsWritten}
 use Rattle.numerals.specs.Appending.{Appended}
 use Rattle.table.specs.declared.TableAnswer.{TableAnswer}
 use Rattle.table.specs.Table.{RowsFilled, TableAnswered}
-use Rattle.table.proofs.Rows.{not-large, table-alone}
-use Rattle.text.proofs.Handed.{handed, few-taken, accepted-on, read-refused}
+use Rattle.table.proofs.Rows.{table-alone}
+use Rattle.text.proofs.Handed.{handed, accepted-on, read-refused}
 
 -- ---- the lent list
 
 abbrev pub OutputPut : List ℕ → List ℕ → List ℕ → ℕ → Type 0
 OutputPut bs out₀ out k = (bytes : List ℕ) × Output bs bytes × Appended out₀ 0 bytes out k
 
-pub list-refused : {bs out : List ℕ} → ShortOutput out → PairsWritten bs out (record { refusal = 1; place = 0; bytes = 0 }) out
+pub list-refused : {bs out : List ℕ} → ShortOutput out → PairsWritten bs out (record { refusal = 23; place = 0; bytes = 0 }) out
 list-refused short =
     record {
       verdict = given (record { zero-place = refl; holds = short });
@@ -45,11 +47,15 @@ pub output-written : {bs out₀ out : List ℕ} {k : ℕ} → outputPlaces ≤ l
 output-written {out₀ = out₀} {out} room (bytes, o, a) =
     let count : length bytes ≡ 0 + length bytes = omega arith in
     record {
-      verdict = none-accepted (check 1 (AtZero (ShortOutput out₀)) ∷ []) (λ p short. let no : ⊥ = omega (arith, short .holds) in no, tt);
+      verdict = none-accepted (check 23 (AtZero (ShortOutput out₀)) ∷ []) (λ p short. let no : ⊥ = omega (arith, short .holds) in no, tt);
       written = λ e. (bytes, o, a .after ∙ sym count, a .bytes ∙ ap (λ (m : ℕ). bytes ++ drop m out₀) (a .after ∙ sym count));
       no-bytes = λ n. absurd (n refl);
       kept = λ n. absurd (n refl);
     }
+
+some-event : (rs : List Rule) → 1 ≤ events rs
+some-event [] = omega arith
+some-event (r ∷ rs) = omega (arith, some-event rs)
 
 -- ---- one list of bytes
 
@@ -68,6 +74,20 @@ refusal-put {j = j} {p = p} n v (line, is-line, a) = (line, refused j p (not-zer
 
 -- ---- after a reading
 
+-- a text's graph has an event at least, and lists of one length
+text-counts : (rs : List Rule) → events rs ≤ 64 → length rs ≤ 1024 → NoneApplies (countChecks 64 1024 (graphOfRules rs))
+text-counts rs few few-rows = (misses-at-zero no-21, (misses-at-zero no-22, tt))
+  where
+    no-21 : EventsOutside 64 (events rs) → ⊥
+    no-21 (no-events e) = omega (arith, some-event rs)
+    no-21 (many-events l) = omega arith
+
+    no-22 : RulesOutside 1024 (graphOfRules rs) → ⊥
+    no-22 (many-rules l) = omega (arith, length-map rs (λ (r : Rule). r .source))
+    no-22 (targets-differ d) = d (length-map rs (λ (r : Rule). r .target) ∙ sym (length-map rs (λ (r : Rule). r .source)))
+    no-22 (leasts-differ d) = d (length-map rs (λ (r : Rule). r .least) ∙ sym (length-map rs (λ (r : Rule). r .source)))
+    no-22 (mosts-differ d) = d (length-map rs (λ (r : Rule). r .most) ∙ sym (length-map rs (λ (r : Rule). r .source)))
+
 module _ {bs : List ℕ} {a : Reading} {ss₀ ts₀ : List ℕ} {ds₀ Ds₀ : List ℤ} {ss ts : List ℕ} {ds Ds : List ℤ} (w : RulesWritten bs a ss₀ ts₀ ds₀ Ds₀ ss ts ds Ds) (r : ReadOff bs (ShortForRules ss₀ ts₀ ds₀ Ds₀) a) where
   pub read-refused-put : {out₀ out : List ℕ} {k : ℕ} → length ss₀ ≡ 1024 → length ts₀ ≡ 1024 → length ds₀ ≡ 1024 → length Ds₀ ≡ 1024 → (a .refusal ≡ 0 → ⊥) → LineWritten (a .refusal) (a .place) out₀ out k → OutputPut bs out₀ out k
   read-refused-put l₁ l₂ l₃ l₄ n line = refusal-put n (read-refused w r l₁ l₂ l₃ l₄ n) line
@@ -77,7 +97,8 @@ module _ {bs : List ℕ} {a : Reading} {ss₀ ts₀ : List ℕ} {ds₀ Ds₀ : L
     pub read-alone : GraphVerdict (graphOf (a .events) (take (a .rules) ss) (take (a .rules) ts) (take (a .rules) ds) (take (a .rules) Ds)) (b .refusal) (b .place)
     read-alone =
         let h = handed w r e in
-        table-alone (not-large (h .few) (few-taken ss (h .few-rows)) (omega (arith, h .few))) (b .refusal) (b .place) (t .verdict)
+        let none = subst (λ (g : Graph). NoneApplies (countChecks 64 1024 g)) (sym (h .graph)) (text-counts (h .rs) (omega (arith, h .few, h .event-count)) (h .few-rules)) in
+        table-alone {table₀ = entries₀} (record { none = none; room = omega (arith, h .few) }) (b .refusal) (b .place) (t .verdict)
 
     alone : GraphVerdict (graphOfRules (handed w r e .rs)) (b .refusal) (b .place)
     alone = subst (λ (g : Graph). GraphVerdict g (b .refusal) (b .place)) (handed w r e .graph) read-alone

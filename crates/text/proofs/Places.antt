@@ -1,4 +1,4 @@
--- The numbers of a refusal line are small: one digit for the number, five for the place.
+-- The numbers of a refusal line are small: two digits for the number, five for the place.
 --     ended-bytes      each row that is ended takes two bytes at least
 --     Small j p        number j and place p are small
 --     text-small       so are those of a text's refusals, where what follows the counts has small ones
@@ -12,11 +12,14 @@ use Prim.Native.Nat.{ℕ, _+_, _*_, _<_, _≤_}
 use native.Mathlib.Omega.{arith}
 use lib.ListN.{length, length-append, length-map}
 use Rattle.graphs.specs.Graph.{Graph, rules}
-use Rattle.verdicts.specs.Verdict.{Accepted, accepted, AtZero}
-use Rattle.verdicts.proofs.Verdicts.{Misses, NoneApplies, Places, then-place, PlacesAfter, then-place-after}
-use Rattle.graphs.specs.Refusal.{graphChecks, pathChecks, GraphVerdict}
+use Rattle.verdicts.specs.Verdict.{Accepted, accepted, AtZero, Lowest}
+use Rattle.verdicts.proofs.Verdicts.{Misses, NoneApplies, holds-not, none-lowest, PlacesAfter, then-place-after}
+use Rattle.graphs.specs.Refusal.{UnknownEvent, graphChecks, pathChecks, GraphVerdict}
+use Rattle.graphs.specs.Path.{OnCycle}
+use Rattle.graphs.proofs.Cycle.{on-cycle-known}
+use Rattle.graphs.proofs.Unique.{known-ends}
 use Rattle.text.specs.Grammar.{Rule, Text, Ended, start, ended, Broken}
-use Rattle.text.specs.Reading.{events, graphOfRules, Beyond, many-events, many-rows, textChecks, TextVerdict}
+use Rattle.text.specs.Reading.{events, graphOfRules, textChecks, TextVerdict}
 use Rattle.text.specs.Answers.{NoLists}
 use Rattle.text.specs.Output.{PairsVerdict}
 
@@ -27,10 +30,10 @@ ended-bytes (ended {k = k} {after = after} line rest before e right) =
     omega (arith, ended-bytes before)
 
 pub record Small (j p : ℕ) : Type 0 where
-  pub number : j < 10
+  pub number : j < 100
   pub place : p < 100000
 
-at-zero-small : {A : Type 0} (k p : ℕ) → k < 10 → AtZero A p → Small k p
+at-zero-small : {A : Type 0} (k p : ℕ) → k < 100 → AtZero A p → Small k p
 at-zero-small k p l a = record { number = l; place = omega (arith, a .zero-place) }
 
 broken-place : {bs : List ℕ} {k : ℕ} → Broken bs k → k ≤ 1 + length bs
@@ -45,7 +48,16 @@ text-small {bs} {Short} {Rest} rest {j} {p} v = then-place-after Small (textChec
         record { number = omega arith; place = omega (arith, broken-place b) }
 
     each : PlacesAfter Small (textChecks bs Short)
-    each = (λ q a. at-zero-small 1 q (omega arith) a, λ bytes. (broken-small bytes, λ rows. (λ q a. at-zero-small 1 q (omega arith) a, λ counts. tt)))
+    each = (
+      λ q a. at-zero-small 1 q (omega arith) a,
+      λ bytes. (
+        broken-small bytes,
+        λ rows. (
+          λ q a. at-zero-small 21 q (omega arith) a,
+          λ few. (λ q a. at-zero-small 22 q (omega arith) a, λ few-rows. (λ q a. at-zero-small 23 q (omega arith) a, λ lists. tt)),
+        ),
+      ),
+    )
 
 accepted-small : {j p : ℕ} → Accepted j p → Small j p
 accepted-small accepted = record { number = omega arith; place = omega arith }
@@ -54,16 +66,23 @@ pub read-small : {bs : List ℕ} {Short : List Rule → Type 0} {j p : ℕ} → 
 read-small = text-small (λ none j p. accepted-small)
 
 pub graph-small : {g : Graph} → g .events ≤ 64 → rules g ≤ 1024 → {j p : ℕ} → GraphVerdict g j p → Small j p
-graph-small {g} few-events few-rules {j} {p} v = then-place Small (graphChecks g ++ pathChecks g) Accepted j p each accepted-small v
+graph-small {g} few-events few-rules {j} {p} v = then-place-after Small (graphChecks g ++ pathChecks g) Accepted j p each (λ none. accepted-small) v
   where
-    each : Places Small (graphChecks g ++ pathChecks g)
+    -- past refusal 2 an event on a cycle is one of the graph's
+    on-cycle-small : Misses (Lowest (UnknownEvent g)) → (q : ℕ) → Lowest (OnCycle g) q → Small 5 q
+    on-cycle-small ends q a = record { number = omega arith; place = omega (arith, on-cycle-known (λ i l. known-ends l (none-lowest ends i)) (a .holds)) }
+
+    each : PlacesAfter Small (graphChecks g ++ pathChecks g)
     each = (
-      λ q a. at-zero-small 1 q (omega arith) a,
-      (
-        λ q a. record { number = omega arith; place = omega (arith, a .holds .is-rule) },
-        (
+      λ q a. at-zero-small 21 q (omega arith) a,
+      λ _. (
+        λ q a. at-zero-small 22 q (omega arith) a,
+        λ _. (
           λ q a. record { number = omega arith; place = omega (arith, a .holds .is-rule) },
-          (λ q a. at-zero-small 5 q (omega arith) a, (λ q a. record { number = omega arith; place = omega (arith, a .holds .is-event) }, tt)),
+          λ ends. (
+            λ q a. record { number = omega arith; place = omega (arith, a .holds .is-rule) },
+            λ _. (on-cycle-small ends, λ _. (λ q a. record { number = omega arith; place = omega (arith, a .holds .is-event) }, λ _. tt)),
+          ),
         ),
       ),
     )
@@ -72,8 +91,7 @@ pub pairs-small : {bs : List ℕ} {j p : ℕ} → PairsVerdict bs j p → Small 
 pairs-small {bs} = text-small graphs
   where
     graphs : NoneApplies (textChecks bs NoLists) → (j p : ℕ) → (rs : List Rule) × Text bs rs × GraphVerdict (graphOfRules rs) j p → Small j p
-    graphs (_, (_, (counts, _))) j p (rs, text, v) =
-        let inside : Beyond NoLists rs → ⊥ = λ b. counts 0 (record { zero-place = refl; holds = record { rs = rs; text = text; beyond = b } }) in
-        let few-events : 64 < events rs → ⊥ = λ l. inside (many-events l) in
-        let few-rows : 1024 < length rs → ⊥ = λ l. inside (many-rows l) in
+    graphs (_, (_, (no-21, (no-22, _)))) j p (rs, text, v) =
+        let few-events : 64 < events rs → ⊥ = λ l. holds-not no-21 (record { rs = rs; text = text; holds = l }) in
+        let few-rows : 1024 < length rs → ⊥ = λ l. holds-not no-22 (record { rs = rs; text = text; holds = l }) in
         graph-small (omega arith) (omega (arith, length-map rs (λ (r : Rule). r .source))) v

@@ -1,5 +1,6 @@
 -- The promise of the reader fixes its result: two readings allowed for one text are equal, lists included.
 --     broken-first          a text of not too many bytes that is broken is refused with 8
+--     events-first          a text of too many events is refused with 21, however many rows it has
 --     text-places           each check of a text has one place
 --     verdict-unique        so a text has one verdict
 --     reading-unique        two readings of one text are equal
@@ -15,11 +16,11 @@ use native.Mathlib.Omega.{arith}
 use lib.IntN.{ℤ}
 use lib.ListN.{length}
 use Rattle.verdicts.specs.Verdict.{given, passed, Accepted}
-use Rattle.verdicts.proofs.Verdicts.{OnePlaces, OneVerdict, at-zero-unique, accepted-unique, then-unique}
+use Rattle.verdicts.proofs.Verdicts.{OnePlaces, OneVerdict, at-zero, at-zero-unique, misses-at-zero, accepted-unique, then-unique}
 use Rattle.text.specs.declared.Reading.{Reading}
 use Rattle.text.specs.Grammar.{Rule, Broken}
-use Rattle.text.specs.Reading.{textChecks, TextVerdict, ReadOff, RulesWritten, events}
-use Rattle.text.proofs.Texts.{text-unique, broken-unique}
+use Rattle.text.specs.Reading.{ManyEvents, OfText, textChecks, TextVerdict, ReadOff, RulesWritten, events}
+use Rattle.text.proofs.Texts.{text-unique, text-not-broken, broken-unique}
 
 -- ---- the reading
 
@@ -27,8 +28,12 @@ use Rattle.text.proofs.Texts.{text-unique, broken-unique}
 pub broken-first : {bs : List ℕ} {Short : List Rule → Type 0} {Rest : ℕ → ℕ → Type 0} {k : ℕ} → length bs ≤ 32768 → Broken bs k → TextVerdict bs Short Rest 8 k
 broken-first few broken = passed (λ q z. let long = z .holds in omega arith) (given broken)
 
+-- 02: "The text's count check gives 21, then 22"
+pub events-first : {bs : List ℕ} {Short : List Rule → Type 0} {Rest : ℕ → ℕ → Type 0} → length bs ≤ 32768 → OfText bs ManyEvents → TextVerdict bs Short Rest 21 0
+events-first few h = passed (misses-at-zero (λ l. omega arith)) (passed (λ q b. text-not-broken (h .text) b) (given (at-zero h)))
+
 pub text-places : (bs : List ℕ) (Short : List Rule → Type 0) → OnePlaces (textChecks bs Short)
-text-places bs Short = (at-zero-unique, (λ p q a b. broken-unique a b, (at-zero-unique, tt)))
+text-places bs Short = (at-zero-unique, (λ p q a b. broken-unique a b, (at-zero-unique, (at-zero-unique, (at-zero-unique, tt)))))
 
 pub verdict-unique : {bs : List ℕ} {Short : List Rule → Type 0} {Rest : ℕ → ℕ → Type 0} → OneVerdict Rest →
     {i p j q : ℕ} → TextVerdict bs Short Rest i p → TextVerdict bs Short Rest j q → (i ≡ j) × (p ≡ q)

@@ -2,24 +2,27 @@
 --     read-refused         a refusal: the verdict gives it, and the counts are 0
 --     read-long            too many bytes
 --     read-broken          no text
---     read-beyond          too many rules or events, or a list that is too short
+--     read-counted         too many events or rules, or a list that is too short
 --     read-right           none of these
 --     lists-refused, lists-written     what the four lists hold after
 -- Assumes nothing.
-use mathlib.Core.Path.{_≡_, refl, sym, subst, subst₂}
-use mathlib.Core.Logic.{_⊎_, inl, inr}
-use mathlib.Core.List.{List}
+use mathlib.Core.Path.{_≡_, refl, sym, subst, subst₂, _∙_}
+use mathlib.Core.Logic.{_⊎_}
+use mathlib.Core.List.{List, [], _∷_}
 use Prim.Native.Nat.{ℕ, _≤_, _<_}
 use native.Mathlib.Omega.{arith}
 use lib.IntN.{ℤ}
 use lib.ListN.{length}
-use Rattle.verdicts.specs.Verdict.{given, passed, Accepted, accepted, AtZero}
+use Rattle.verdicts.specs.Verdict.{check, given, passed, Accepted, FirstOf, AtZero}
+use Rattle.verdicts.proofs.Verdicts.{Alike, none-alike, more-alike, then-alike}
+use Rattle.graphs.proofs.Refusals.{short-at}
 use Rattle.text.specs.declared.Reading.{Reading}
 use Rattle.text.specs.Grammar.{Rule, Text, Broken}
-use Rattle.text.specs.Reading.{events, ShortForRules, Beyond, many-events, many-rows, short-list, CountsBeyond, TextVerdict, ReadOff, ListsHold, RulesWritten}
-use Rattle.text.specs.Parts.Scanning.{Scanned}
+use Rattle.text.specs.Reading.{events, ShortForRules, ManyEvents, ManyRows, OfText, TextVerdict, ReadOff, ListsHold, RulesWritten}
+use Rattle.text.specs.Parts.Scanning.{readingChecks, Scanned}
 use Rattle.text.proofs.Texts.{text-unique, text-not-broken}
 use Rattle.text.proofs.Unique.{broken-first}
+use Rattle.text.proofs.Counts.{counts-right}
 
 -- ---- the reading
 
@@ -64,47 +67,53 @@ module _ (bs : List ℕ) (few : length bs ≤ 32768) where
     not-broken : (q : ℕ) → Broken bs q → ⊥
     not-broken q b = text-not-broken text b
 
-    pub read-beyond : (ss ts : List ℕ) (ds Ds : List ℤ) {b : Reading} →
-        (64 < a .events) ⊎ ((1024 < a .rules) ⊎ ((length ss < a .rules) ⊎ ((length ts < a .rules) ⊎ ((length ds < a .rules) ⊎ (length Ds < a .rules))))) →
-        (b .refusal ≡ 1) × (b .place ≡ 0) × (b .events ≡ 0) × (b .rules ≡ 0) →
-        ReadOff bs (ShortForRules ss ts ds Ds) b
-    read-beyond ss ts ds Ds which z =
-        read-refused (omega arith)
-        (passed not-long (passed not-broken (given (record { zero-place = refl; holds = record { rs = the-rules; text = text; beyond = by which } })))) z
-      where
-        by : (64 < a .events) ⊎ ((1024 < a .rules) ⊎ ((length ss < a .rules) ⊎ ((length ts < a .rules) ⊎ ((length ds < a .rules) ⊎ (length Ds < a .rules))))) → Beyond (ShortForRules ss ts ds Ds) the-rules
-        by (inl h) = many-events (subst (λ (x : ℕ). 64 < x) event-count h)
-        by (inr (inl h)) = many-rows (subst (λ (x : ℕ). 1024 < x) rule-count h)
-        by (inr (inr (inl h))) = short-list (inl (subst (λ (x : ℕ). length ss < x) rule-count h))
-        by (inr (inr (inr (inl h)))) = short-list (inr (inl (subst (λ (x : ℕ). length ts < x) rule-count h)))
-        by (inr (inr (inr (inr (inl h))))) = short-list (inr (inr (inl (subst (λ (x : ℕ). length ds < x) rule-count h))))
-        by (inr (inr (inr (inr (inr h))))) = short-list (inr (inr (inr (subst (λ (x : ℕ). length Ds < x) rule-count h))))
+    -- there is one list of rules of which this text can be that
+    text-of : {A : List Rule → Type 0} → OfText bs A → A the-rules
+    text-of {A} z = subst A (text-unique (z .text) text) (z .holds)
 
-    module _ (ss ts : List ℕ) (ds Ds : List ℤ) (kept : (a .events ≤ 64) × (a .rules ≤ 1024) × (a .rules ≤ length ss) × (a .rules ≤ length ts) × (a .rules ≤ length ds) × (a .rules ≤ length Ds)) where
-      -- there is one list of rules of which this text can be that
-      not-beyond : (q : ℕ) → AtZero (CountsBeyond bs (ShortForRules ss ts ds Ds)) q → ⊥
-      not-beyond q z = by (subst (Beyond (ShortForRules ss ts ds Ds)) (text-unique (z .holds .text) text) (z .holds .beyond))
+    of-text : {A : List Rule → Type 0} → A the-rules → OfText bs A
+    of-text h = record { rs = the-rules; text = text; holds = h }
+
+    module _ (ss ts : List ℕ) (ds Ds : List ℤ) where
+      -- the counts of the reading are those of the text's rules
+      counts-alike : Alike (readingChecks (a .events) (a .rules) (length ss) (length ts) (length ds) (length Ds)) (check 21 (AtZero (OfText bs ManyEvents)) ∷ check 22 (AtZero (OfText bs ManyRows)) ∷ check 23 (AtZero (OfText bs (ShortForRules ss ts ds Ds))) ∷ [])
+      counts-alike =
+          more-alike
+          (short-at (λ (l : 64 < a .events). of-text {A = ManyEvents} (subst (λ (x : ℕ). 64 < x) event-count l)))
+          (short-at (λ (z : OfText bs ManyEvents). subst (λ (x : ℕ). 64 < x) (sym event-count) (text-of z)))
+          (more-alike
+          (short-at (λ (l : 1024 < a .rules). of-text {A = ManyRows} (subst (λ (x : ℕ). 1024 < x) rule-count l)))
+          (short-at (λ (z : OfText bs ManyRows). subst (λ (x : ℕ). 1024 < x) (sym rule-count) (text-of z)))
+          (more-alike
+          (short-at (λ (l : ShortOf (a .rules)). of-text {A = ShortForRules ss ts ds Ds} (subst ShortOf rule-count l)))
+          (short-at (λ (z : OfText bs (ShortForRules ss ts ds Ds)). subst ShortOf (sym rule-count) (text-of z)))
+          none-alike))
         where
-          by : Beyond (ShortForRules ss ts ds Ds) the-rules → ⊥
-          by (many-events h) = omega (arith, event-count, kept .0)
-          by (many-rows h) = omega (arith, rule-count, kept .1)
-          by (short-list (inl h)) = omega (arith, rule-count, kept .2)
-          by (short-list (inr (inl h))) = omega (arith, rule-count, kept .3)
-          by (short-list (inr (inr (inl h)))) = omega (arith, rule-count, kept .4)
-          by (short-list (inr (inr (inr h)))) = omega (arith, rule-count, kept .5)
+          ShortOf : ℕ → Type 0
+          ShortOf m = (length ss < m) ⊎ ((length ts < m) ⊎ ((length ds < m) ⊎ (length Ds < m)))
 
-      pub read-right : ReadOff bs (ShortForRules ss ts ds Ds) a
-      read-right =
-          record {
-            verdict = subst₂ (TextVerdict bs (ShortForRules ss ts ds Ds) Accepted) (sym right) (sym (s .right-place right)) (passed not-long (passed not-broken (passed not-beyond accepted)));
-            found = s .right;
-            no-events = λ n. absurd (n right);
-            no-rules = λ n. absurd (n right);
-          }
+      counted : {k : ℕ} → FirstOf (readingChecks (a .events) (a .rules) (length ss) (length ts) (length ds) (length Ds)) k 0 → TextVerdict bs (ShortForRules ss ts ds Ds) Accepted k 0
+      counted {k} v = passed not-long (passed not-broken (then-alike counts-alike Accepted k 0 v))
 
-      -- what `write_rules` asks for
-      pub room : (rs : List Rule) × Text bs rs × (length rs ≤ length ss) × (length rs ≤ length ts) × (length rs ≤ length ds) × (length rs ≤ length Ds)
-      room = (the-rules, text, omega (arith, rule-count, kept .2), omega (arith, rule-count, kept .3), omega (arith, rule-count, kept .4), omega (arith, rule-count, kept .5))
+      pub read-counted : {b : Reading} {k : ℕ} → (k ≡ 0 → ⊥) → FirstOf (readingChecks (a .events) (a .rules) (length ss) (length ts) (length ds) (length Ds)) k 0 →
+          (b .refusal ≡ k) × (b .place ≡ 0) × (b .events ≡ 0) × (b .rules ≡ 0) → ReadOff bs (ShortForRules ss ts ds Ds) b
+      read-counted some v z = read-refused (omega arith) (counted v) z
+
+      module _ {k : ℕ} (zero : k ≡ 0) (v : FirstOf (readingChecks (a .events) (a .rules) (length ss) (length ts) (length ds) (length Ds)) k 0) where
+        pub read-right : ReadOff bs (ShortForRules ss ts ds Ds) a
+        read-right =
+            record {
+              verdict = subst₂ (TextVerdict bs (ShortForRules ss ts ds Ds) Accepted) (zero ∙ sym right) (sym (s .right-place right)) (counted v);
+              found = s .right;
+              no-events = λ n. absurd (n right);
+              no-rules = λ n. absurd (n right);
+            }
+
+        -- what `write_rules` asks for
+        pub room : (rs : List Rule) × Text bs rs × (length rs ≤ length ss) × (length rs ≤ length ts) × (length rs ≤ length ds) × (length rs ≤ length Ds)
+        room =
+            let kept = counts-right zero v in
+            (the-rules, text, omega (arith, rule-count, kept .sources-long), omega (arith, rule-count, kept .targets-long), omega (arith, rule-count, kept .leasts-long), omega (arith, rule-count, kept .mosts-long))
 
 -- ---- the lists
 

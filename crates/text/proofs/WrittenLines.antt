@@ -21,7 +21,7 @@ use Rattle.text.proofs.WrittenNumbers.{NaturalIn, IntegerIn, natural-in
 
 module _ {o : List ℕ} where
   pub refused-put : (k p : ℕ) {m₁ m₂ m₃ m₄ m₅ : List ℕ} {a₁ a₂ a₃ a₄ a₅ : ℕ} →
-      k < 10 →
+      k < 100 →
       p < 100000 →
       outputPlaces ≤ length o →
       Put o 0 (refusedWord ++ (44 ∷ [])) m₁ a₁ →
@@ -33,7 +33,7 @@ module _ {o : List ℕ} where
   refused-put k p small small′ room w₁ w₂ w₃ w₄ w₅ =
       let word = w₁ .fits (omega arith) in
       let l₁ = put-length w₁ in
-      let number = natural-in 1 (omega arith) (omega arith) (omega (arith, l₁, word .after)) w₂ in
+      let number = natural-in 2 (omega arith) (omega arith) (omega (arith, l₁, word .after)) w₂ in
       let l₂ = put-length (w₂ .put) ∙ l₁ in
       let comma = w₃ .fits (omega (arith, l₂, word .after, number .2, number .3 .after)) in
       let l₃ = put-length w₃ ∙ l₂ in

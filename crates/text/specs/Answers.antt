@@ -17,7 +17,7 @@ use Rattle.text.specs.Reading.{TextVerdict, graphOfRules}
 abbrev pub NoLists : List Rule → Type 0
 NoLists rs = ⊥
 
--- "Order: 1 for the bytes, 8, 1 for the counts, then as the analysis"; "There 4 is checked after 3", as it is in the analysis
+-- "Order: 1 for the bytes, 8, 1 for the counts, then as the analysis", with 21 and 22 for the counts; "There 4 is checked after 3", as it is in the analysis
 pub record TextAnswered (bs : List ℕ) (s t : ℕ) (a : Answer) : Type 0 where
   pub verdict : TextVerdict bs NoLists (λ (j p : ℕ). (rs : List Rule) × Text bs rs × Verdict (graphOfRules rs) s t ⊥ j p) (a .refusal) (a .place)
   pub found : a .refusal ≡ 0 → (rs : List Rule) × Text bs rs × Found (graphOfRules rs) s t a

@@ -101,13 +101,13 @@ pub data Output (bs out : List ℕ) : Type 0 where
 abbrev pub outputPlaces : ℕ
 outputPlaces = 131072
 
--- "a lent output list is too short"
+-- 02: "short output list 23"
 abbrev pub ShortOutput : List ℕ → Type 0
 ShortOutput out₀ = length out₀ < outputPlaces
 
 -- "A refusal returns its number and place … and every lent list keeps its contents"; "places beyond keep what they held"
 pub record PairsWritten (bs out₀ : List ℕ) (a : PairsAnswer) (out : List ℕ) : Type 0 where
-  pub verdict : FirstOf (check 1 (AtZero (ShortOutput out₀)) ∷ []) (a .refusal) (a .place)
+  pub verdict : FirstOf (check 23 (AtZero (ShortOutput out₀)) ∷ []) (a .refusal) (a .place)
   pub written : a .refusal ≡ 0 → (output : List ℕ) × Output bs output × (a .bytes ≡ length output) × (out ≡ output ++ drop (length output) out₀)
   pub no-bytes : (a .refusal ≡ 0 → ⊥) → a .bytes ≡ 0
   pub kept : (a .refusal ≡ 0 → ⊥) → out ≡ out₀

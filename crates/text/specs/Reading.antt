@@ -1,9 +1,12 @@
--- What a reading of the text form is. Document 01, sections "Text form and the pair program" and "Refusal numbers"; demand 1.
+-- What a reading of the text form is. Document 01, sections "Text form and the pair program" and "Refusal numbers"; demand 1; 02, wish 3.
 --     events rs            == n: "1 + the greatest event number seen, or 1 with no rows"
 --     graphOfRules rs      == the graph with that many events and these rules
 --     ShortForRules rs …      == one of the four lent lists is too short for the rules rs
---     CountsBeyond bs Short == bs is the text of rules, and they, or their events, are too many, or Short says of them that a lent list is too short
---     textChecks bs Short  == the refusals of a text
+--     ManyEvents rs        == the rules rs have more events than a text may
+--     ManyRows rs          == they are more than a text may have
+--     OfText bs A          == bs is the text of rules of which A holds
+--     textAlone bs         == the refusals 1, 8, 21 and 22: those that speak of the text alone
+--     textChecks bs Short  == these and 23; Short says of the rules when a lent list is too short
 --     TextVerdict bs Short Rest == the first of them that applies, then Rest
 --     ReadOff bs Short a   == a is the reading of bs
 --     ListsHold rs …       == the four lent lists hold the rules rs, and beyond what they held
@@ -42,20 +45,25 @@ graphOfRules rs = graphOf (events rs) (sourcesOf rs) (targetsOf rs) (leastsOf rs
 abbrev pub ShortForRules : List ℕ → List ℕ → List ℤ → List ℤ → List Rule → Type 0
 ShortForRules ss ts ds Ds rs = (length ss < length rs) ⊎ ((length ts < length rs) ⊎ ((length ds < length rs) ⊎ (length Ds < length rs)))
 
--- "at most … 64 events and 1,024 rows"; "a lent output list is too short"
-pub data Beyond (Short : List Rule → Type 0) (rs : List Rule) : Type 0 where
-  many-events : 64 < events rs → Beyond Short rs
-  many-rows : 1024 < length rs → Beyond Short rs
-  short-list : Short rs → Beyond Short rs
+-- "at most … 64 events and 1,024 rows"
+abbrev pub ManyEvents : List Rule → Type 0
+ManyEvents rs = 64 < events rs
 
-pub record CountsBeyond (bs : List ℕ) (Short : List Rule → Type 0) : Type 0 where
+abbrev pub ManyRows : List Rule → Type 0
+ManyRows rs = 1024 < length rs
+
+pub record OfText (bs : List ℕ) (A : List Rule → Type 0) : Type 0 where
   pub rs : List Rule
   pub text : Text bs rs
-  pub beyond : Beyond Short rs
+  pub holds : A rs
 
--- "at most 32,768 bytes"; "Order: 1 for the bytes, 8, 1 for the counts"
+-- "at most 32,768 bytes"; "Order: 1 for the bytes, 8, 1 for the counts"; 02: "The text's count check gives 21, then 22; 1 remains for its bytes only",
+-- and "short output list 23"
+abbrev pub textAlone : List ℕ → List Check
+textAlone bs = check 1 (AtZero (32768 < length bs)) ∷ check 8 (Broken bs) ∷ check 21 (AtZero (OfText bs ManyEvents)) ∷ check 22 (AtZero (OfText bs ManyRows)) ∷ []
+
 abbrev pub textChecks : List ℕ → (List Rule → Type 0) → List Check
-textChecks bs Short = check 1 (AtZero (32768 < length bs)) ∷ check 8 (Broken bs) ∷ check 1 (AtZero (CountsBeyond bs Short)) ∷ []
+textChecks bs Short = textAlone bs ++ (check 23 (AtZero (OfText bs Short)) ∷ [])
 
 abbrev pub TextVerdict : List ℕ → (List Rule → Type 0) → (ℕ → ℕ → Type 0) → ℕ → ℕ → Type 0
 TextVerdict bs Short Rest = FirstThen (textChecks bs Short) Rest

@@ -22,7 +22,7 @@ mod scan;
 use crate::lines::put_pairs;
 use crate::lines::put_refusal;
 use crate::rules::write_rules;
-use crate::scan::beyond;
+use crate::scan::check_counts;
 use crate::scan::refused;
 use crate::scan::scan;
 use separation::Answer;
@@ -35,7 +35,7 @@ pub struct Reading {
     pub rules: usize,
 }
 
-// The answer to a writing of the pairs. `refusal` is 0, or 1 for a lent list that is too short, with its place; `bytes` counts what was written. A text
+// The answer to a writing of the pairs. `refusal` is 0, or 23 for a lent list that is too short, with its place; `bytes` counts what was written. A text
 // that is refused is none of its refusals: the line that says so is what was written.
 pub struct PairsAnswer {
     pub refusal: usize,
@@ -61,14 +61,15 @@ pub fn read_rules(
     if found.refusal != 0 {
         return found;
     }
-    if beyond(
+    let counts = check_counts(
         found,
         sources.len(),
         targets.len(),
         leasts.len(),
         mosts.len(),
-    ) {
-        return refused(1, 0);
+    );
+    if counts != 0 {
+        return refused(counts, 0);
     }
     write_rules(text, sources, targets, leasts, mosts);
     found
@@ -146,7 +147,7 @@ pub fn write_pairs(text: &[u8], out: &mut [u8]) -> PairsAnswer
 {
     if out.len() < 131072 {
         return PairsAnswer {
-            refusal: 1,
+            refusal: 23,
             place: 0,
             bytes: 0,
         };

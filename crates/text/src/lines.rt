@@ -23,7 +23,7 @@ const ROW: usize = 64;
 
 // The line of a refusal.
 pub(crate) fn put_refusal(out: &mut [u8], refusal: usize, place: usize) -> usize
-    requires { ⌜ (outputPlaces ≤ length (now out)) × (refusal < 10) × (place < 100000) ⌝ }
+    requires { ⌜ (outputPlaces ≤ length (now out)) × (refusal < 100) × (place < 100000) ⌝ }
     ensures { λ r. ⌜ ((bs : List ℕ) × RefusedLine refusal place bs × Appended (now (out .entry)) 0 bs (now (out .exit)) r) ⌝ }
 {
     let word = put_bytes(out, 0, b"refused,");

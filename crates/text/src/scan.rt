@@ -1,11 +1,11 @@
 // The whole text read once, and nothing written: is it a text, of how many rules and events, or which row is broken?
 ghost use mathlib.Core.Path.{_≡_};
 ghost use mathlib.Core.Bool.{true, false};
-ghost use mathlib.Core.Logic.{_⊎_};
 ghost use mathlib.Core.List.{List, _++_};
 ghost use Prim.Native.Nat.{ℕ, suc, max, _<_, _≤_};
 ghost use lib.ListN.{length, drop};
-ghost use Rattle.text.specs.Parts.Scanning.{Scanned};
+ghost use Rattle.verdicts.specs.Verdict.{FirstOf};
+ghost use Rattle.text.specs.Parts.Scanning.{readingChecks, Scanned};
 ghost use Rattle.text.specs.Parts.Header.{HeaderFound};
 use crate::Reading;
 use crate::rows::end_at;
@@ -23,33 +23,35 @@ pub(crate) fn refused(refusal: usize, place: usize) -> Reading
     }
 }
 
-// Whether the counts are beyond the limits, or a list of that many places is too short.
-pub(crate) fn beyond(
+// Refusal 21 for too many events, 22 for too many rules, 23 where a list of that many places is too short for them; else 0.
+pub(crate) fn check_counts(
     found: Reading,
     sources: usize,
     targets: usize,
     leasts: usize,
     mosts: usize,
-) -> bool
-    ensures { λ r. ⌜ (r ≡ true → (64 < found .events) ⊎ ((1024 < found .rules) ⊎ ((sources < found .rules) ⊎ ((targets < found .rules) ⊎ ((leasts < found .rules) ⊎ (mosts < found .rules)))))) ⌝ }
-    ensures { λ r. ⌜ (r ≡ false → (found .events ≤ 64) × (found .rules ≤ 1024) × (found .rules ≤ sources) × (found .rules ≤ targets) × (found .rules ≤ leasts) × (found .rules ≤ mosts)) ⌝ }
+) -> usize
+    ensures { λ r. ⌜ FirstOf (readingChecks (found .events) (found .rules) sources targets leasts mosts) r 0 ⌝ }
 {
     if found.events > 64 {
-        return true;
+        return 21;
     }
     if found.rules > 1024 {
-        return true;
+        return 22;
     }
     if found.rules > sources {
-        return true;
+        return 23;
     }
     if found.rules > targets {
-        return true;
+        return 23;
     }
     if found.rules > leasts {
-        return true;
+        return 23;
     }
-    found.rules > mosts
+    if found.rules > mosts {
+        return 23;
+    }
+    0
 }
 
 // Whether a list of bytes begins with another.

@@ -6,9 +6,10 @@
 --     accepted-unique, then-unique     a list each of whose checks has one place gives one number and place, where Rest does
 --     one-verdict                      and where nothing is left to Rest
 --     Misses At, NoneApplies cs        At holds of no place; no check of the list applies
+--     misses-at-zero, holds-not        what does not hold applies at no place, both ways
 --     passed-all, rest-of              where no check of the list applies, the verdict is that of Rest, both ways
 --     given-after                      a check is given where none before it applies
---     then-more                        another Rest
+--     then-more, then-more-after       another Rest; only what no check of the list refuses is asked of it
 --     front-given                      a refusal by the list is given, whatever Rest says
 --     front-or-rest                    a verdict is by the list, or no check of it applies and it is by Rest
 --     Refusals cs                      no check of the list has number 0
@@ -80,6 +81,12 @@ abbrev pub NoneApplies : List Check → Type 0
 NoneApplies [] = Unit {0}
 NoneApplies (c ∷ cs) = Misses (c .At) × NoneApplies cs
 
+pub misses-at-zero : {A : Type 0} → (A → ⊥) → Misses (AtZero A)
+misses-at-zero none p a = none (a .holds)
+
+pub holds-not : {A : Type 0} → Misses (AtZero A) → A → ⊥
+holds-not none h = none 0 (at-zero h)
+
 pub passed-all : (cs : List Check) (Rest : ℕ → ℕ → Type 0) (j p : ℕ) → NoneApplies cs → Rest j p → FirstThen cs Rest j p
 passed-all [] Rest j p none v = v
 passed-all (c ∷ cs) Rest j p none v = passed (none .0) (passed-all cs Rest j p (none .1) v)
@@ -103,6 +110,11 @@ first-more f (passed n r) = passed n (f r)
 pub then-more : (cs : List Check) (Rest Rest′ : ℕ → ℕ → Type 0) (j p : ℕ) → (Rest j p → Rest′ j p) → FirstThen cs Rest j p → FirstThen cs Rest′ j p
 then-more [] Rest Rest′ j p f v = f v
 then-more (c ∷ cs) Rest Rest′ j p f v = first-more (then-more cs Rest Rest′ j p f) v
+
+pub then-more-after : (cs : List Check) (Rest Rest′ : ℕ → ℕ → Type 0) (j p : ℕ) → (NoneApplies cs → Rest j p → Rest′ j p) → FirstThen cs Rest j p → FirstThen cs Rest′ j p
+then-more-after [] Rest Rest′ j p f v = f tt v
+then-more-after (c ∷ cs) Rest Rest′ j p f (given a) = given a
+then-more-after (c ∷ cs) Rest Rest′ j p f (passed none r) = passed none (then-more-after cs Rest Rest′ j p (λ others. f (none, others)) r)
 
 pub not-accepted : {A : Type 0} {j p : ℕ} → (j ≡ 0 → ⊥) → Accepted j p → A
 not-accepted some accepted = absurd (some refl)

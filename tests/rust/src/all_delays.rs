@@ -8,7 +8,9 @@
 //! | cycles, unreached events | by following rules from an event |
 //! | depths | the longest of all paths from the root, each of which is walked |
 //! | coarse form | every bound moved outward tick by tick to a multiple of q, then as above |
+//! | hard deadlines | of all these executions, those in which every rule's two times differ by least to most |
 //! | schedule | what was written is tested against 01's sentence |
+//! | claim | an execution where some choice of delays is its list and gives its times; the broken event by 01's sentences, in 128 bits |
 //! | unfolding | the report's set R, cut off at K, its events listed by number |
 
 #[derive(Clone, Copy, Debug, PartialEq, Eq)]
@@ -102,6 +104,54 @@ pub fn greatest(events: usize, rules: &[Rule]) -> Vec<Vec<i64>> {
     }
 }
 
+/// The same over the times that meet every rule on its own, which are among the executions; none where there are no such times.
+pub fn hard_greatest(events: usize, rules: &[Rule]) -> Option<Vec<Vec<i64>>> {
+    let into: Vec<Vec<usize>> = (0..events).map(|event| rules_into(event, rules)).collect();
+    let mut greatest: Option<Vec<Vec<i64>>> = None;
+    let mut known = vec![None; events];
+    let mut delays: Vec<i64> = rules.iter().map(|rule| rule.least).collect();
+    loop {
+        let times = execution(rules, &into, &delays, &mut known);
+        if rules.iter().all(|rule| binds(rule, &times)) {
+            let rows = greatest.get_or_insert_with(|| vec![vec![i64::MIN; events]; events]);
+            for (row, from) in rows.iter_mut().zip(&times) {
+                for (best, to) in row.iter_mut().zip(&times) {
+                    *best = (*best).max(to - from);
+                }
+            }
+        }
+        if !next_choice(rules, &mut delays) {
+            return greatest;
+        }
+    }
+}
+
+/// Whether the two times of a rule differ by a delay of its interval.
+fn binds(rule: &Rule, times: &[i64]) -> bool {
+    (rule.least..=rule.most).contains(&(times[rule.target] - times[rule.source]))
+}
+
+/// What is wrong with a written schedule under hard deadlines, if anything. `greatest` is the row of s, over the times that meet every rule.
+pub fn hard_schedule_fault(
+    rules: &[Rule],
+    s: usize,
+    greatest: &[i64],
+    times: &[i64],
+    delays: &[i64],
+) -> Option<String> {
+    if times[0] != 0 {
+        return Some("the root isn't at 0".to_string());
+    }
+    if let Some(event) = (0..greatest.len()).find(|&v| times[v] - times[s] != greatest[v]) {
+        return Some(format!("event {} is not as late against s as the deadlines allow", event));
+    }
+    if let Some(rule) = (0..rules.len()).find(|&i| !binds(&rules[i], times)) {
+        return Some(format!("rule {} is not met", rule));
+    }
+    let between = |i: usize| times[rules[i].target] - times[rules[i].source];
+    (0..rules.len()).find(|&i| delays[i] != between(i)).map(|i| format!("the delay of rule {} is another", i))
+}
+
 fn rules_into(event: usize, rules: &[Rule]) -> Vec<usize> {
     (0..rules.len()).filter(|&rule| rules[rule].target == event).collect()
 }
@@ -127,8 +177,9 @@ fn led_to(from: usize, rules: &[Rule]) -> Vec<usize> {
     }
 }
 
-fn has_cycle(events: usize, rules: &[Rule]) -> bool {
-    (0..events).any(|event| led_to(event, rules).contains(&event))
+/// The lowest event that a rule or more lead back to.
+fn lowest_on_cycle(events: usize, rules: &[Rule]) -> Option<usize> {
+    (0..events).find(|event| led_to(*event, rules).contains(event))
 }
 
 fn lowest_unreached(events: usize, rules: &[Rule]) -> Option<usize> {
@@ -167,18 +218,27 @@ fn delay_outside(rule: &Rule) -> bool {
     !inside.contains(&rule.least) || !inside.contains(&rule.most) || rule.least > rule.most
 }
 
-fn counts_outside(given: &Given, form: Form) -> bool {
+/// 21 for the events, 22 for the rules, 23 for the lent lists, in this order.
+fn counts_refused(given: &Given, form: Form) -> Option<usize> {
     let short = match form {
         Form::Schedule(times, delays) => times < given.events || delays < given.sources.len(),
         _ => false,
     };
-    given.events == 0 || given.events > 1_024 || given.sources.len() > 4_096 || given.lists_differ() || short
+    if given.events == 0 || given.events > 1_024 {
+        Some(21)
+    } else if given.sources.len() > 4_096 || given.lists_differ() {
+        Some(22)
+    } else if short {
+        Some(23)
+    } else {
+        None
+    }
 }
 
 /// The number and place of the first refusal that applies.
 pub fn refusal(given: &Given, form: Form, s: usize, t: usize) -> Option<(usize, usize)> {
-    if counts_outside(given, form) {
-        return Some((1, 0));
+    if let Some(number) = counts_refused(given, form) {
+        return Some((number, 0));
     }
     let events = given.events;
     let rules = given.rules();
@@ -195,8 +255,8 @@ pub fn refusal(given: &Given, form: Form, s: usize, t: usize) -> Option<(usize, 
         Form::Coarse(q) if q == 0 || q > 1_000 => return Some((9, q)),
         _ => {}
     }
-    if has_cycle(events, &rules) {
-        return Some((5, 0));
+    if let Some(event) = lowest_on_cycle(events, &rules) {
+        return Some((5, event));
     }
     lowest_unreached(events, &rules).map(|event| (6, event))
 }
@@ -253,6 +313,75 @@ fn greatest_delay(rule: &Rule, times: &[i64]) -> Option<i64> {
     None
 }
 
+// ---- claims
+
+/// What is said of a claim that isn't refused.
+#[derive(Clone, Copy, Debug, PartialEq, Eq)]
+pub enum Verdict {
+    Maximum,
+    Below,
+    Broken(usize),
+    Differs,
+}
+
+/// The refusal of a claim with so many times and delays: the question's, with 22 for wrong lists after 21.
+pub fn claim_refusal(given: &Given, s: usize, t: usize, times: usize, delays: usize) -> Option<(usize, usize)> {
+    let wrong = times != given.events || delays != given.sources.len();
+    match refusal(given, Form::Exact, s, t) {
+        Some((21, place)) => Some((21, place)),
+        _ if wrong => Some((22, 0)),
+        other => other,
+    }
+}
+
+/// Whether the two lists are an execution: every choice of delays is made, and where it is the list, the times that follow are compared.
+fn is_execution(rules: &[Rule], times: &[i64], delays: &[i64]) -> bool {
+    let into: Vec<Vec<usize>> = (0..times.len()).map(|event| rules_into(event, rules)).collect();
+    let mut known = vec![None; times.len()];
+    let mut choice: Vec<i64> = rules.iter().map(|rule| rule.least).collect();
+    loop {
+        if choice == delays {
+            return execution(rules, &into, &choice, &mut known) == times;
+        }
+        if !next_choice(rules, &mut choice) {
+            return false;
+        }
+    }
+}
+
+/// Whether an event breaks one of 01's sentences.
+fn is_broken(event: usize, rules: &[Rule], times: &[i64], delays: &[i64]) -> bool {
+    let into = rules_into(event, rules);
+    let outside = into.iter().any(|&i| delays[i] < rules[i].least || delays[i] > rules[i].most);
+    let arrivals = into.iter().map(|&i| times[rules[i].source] as i128 + delays[i] as i128);
+    let due = if event == 0 { Some(0) } else { arrivals.max() };
+    outside || due != Some(times[event] as i128)
+}
+
+/// The verdict on a claim that isn't refused. `greatest` is the maximum.
+pub fn verdict(
+    rules: &[Rule],
+    s: usize,
+    t: usize,
+    claimed: i64,
+    greatest: i64,
+    times: &[i64],
+    delays: &[i64],
+) -> Verdict {
+    let broken = (0..times.len()).find(|&event| is_broken(event, rules, times, delays));
+    assert_eq!(
+        broken.is_none(),
+        is_execution(rules, times, delays),
+        "no event is broken exactly if it is an execution"
+    );
+    match broken {
+        Some(event) => Verdict::Broken(event),
+        None if times[t] - times[s] != claimed => Verdict::Differs,
+        None if claimed == greatest => Verdict::Maximum,
+        None => Verdict::Below,
+    }
+}
+
 // ---- unfoldings
 
 /// A process graph as it is handed in, with K and the lengths of the four lent lists.
@@ -260,6 +389,8 @@ fn greatest_delay(rule: &Rule, times: &[i64]) -> Option<i64> {
 pub struct GivenProcess {
     pub templates: Given,
     pub marks: Vec<usize>,
+    pub start_leasts: Vec<i64>,
+    pub start_mosts: Vec<i64>,
     pub copies: usize,
     pub lent: [usize; 4],
 }
@@ -274,23 +405,43 @@ impl GivenProcess {
         self.templates.events as u128 * self.copies as u128
     }
 
-    fn counts_outside(&self) -> bool {
-        let lists_differ = self.templates.lists_differ() || self.marks.len() != self.templates.sources.len();
-        let short = self.lent.iter().any(|&length| (length as u128) < self.written());
-        let none = self.templates.events == 0 || self.copies == 0;
-        none || lists_differ || short || self.last_event() > 1_023 || self.written() > 4_096
+    /// 21 for the events, 22 for the templates, 24 for the unfolding, 23 for the lent lists, in this order.
+    fn counts_refused(&self) -> Option<usize> {
+        let lengths = [self.marks.len(), self.start_leasts.len(), self.start_mosts.len()];
+        let lists_differ = self.templates.lists_differ() || lengths.iter().any(|&length| length != self.templates.sources.len());
+        if self.templates.events == 0 || self.templates.events > 1_023 {
+            Some(21)
+        } else if self.templates.sources.len() > 4_096 || lists_differ {
+            Some(22)
+        } else if self.copies == 0 || self.last_event() > 1_023 || self.written() > 4_096 {
+            Some(24)
+        } else if self.lent.iter().any(|&length| (length as u128) < self.written()) {
+            Some(23)
+        } else {
+            None
+        }
+    }
+
+    /// The start interval of a template as a rule: one with mark 1 has it, any other has none.
+    fn start_rule(&self, template: usize) -> Option<Rule> {
+        if self.marks[template] != 1 {
+            return None;
+        }
+        let (least, most) = (self.start_leasts[template], self.start_mosts[template]);
+        Some(Rule { source: 0, target: self.templates.targets[template], least, most })
     }
 
     pub fn refusal(&self) -> Option<(usize, usize)> {
-        if self.counts_outside() {
-            return Some((1, 0));
+        if let Some(number) = self.counts_refused() {
+            return Some((number, 0));
         }
         let events = self.templates.events;
         let templates = self.templates.rules();
         if let Some(place) = templates.iter().position(|rule| rule.source >= events || rule.target >= events) {
             return Some((2, place));
         }
-        if let Some(place) = templates.iter().position(delay_outside) {
+        let wrong = |&place: &usize| delay_outside(&templates[place]) || self.start_rule(place).iter().any(delay_outside);
+        if let Some(place) = (0..templates.len()).find(wrong) {
             return Some((3, place));
         }
         self.marks.iter().position(|&mark| mark != 0 && mark != 1).map(|place| (7, place))
@@ -323,11 +474,11 @@ fn nodes(events: usize, copies: usize) -> Vec<Node> {
 }
 
 /// The members of R that one template gives, as far as their target's k is below K.
-fn members(template: usize, rule: &Rule, mark: usize, copies: usize) -> Vec<Member> {
+fn members(template: usize, rule: &Rule, start: Option<Rule>, mark: usize, copies: usize) -> Vec<Member> {
     let mut members = Vec::new();
-    if mark == 1 {
-        let to = Node::Occurrence(rule.target, 0);
-        members.push(Member { k: 0, template, from: Node::Root, to, delays: (0, 0) });
+    if let Some(first) = start {
+        let to = Node::Occurrence(first.target, 0);
+        members.push(Member { k: 0, template, from: Node::Root, to, delays: (first.least, first.most) });
     }
     let mut k = 0;
     while k + mark < copies {
@@ -345,7 +496,7 @@ pub fn unfolding(process: &GivenProcess) -> (usize, Vec<Rule>) {
     let nodes = nodes(process.templates.events, process.copies);
     let mut set: Vec<Member> = Vec::new();
     for (template, rule) in templates.iter().enumerate() {
-        set.extend(members(template, rule, process.marks[template], process.copies));
+        set.extend(members(template, rule, process.start_rule(template), process.marks[template], process.copies));
     }
     set.sort_by_key(|member| (member.k, member.template));
     let number = |node: Node| nodes.iter().position(|&other| other == node).expect("every node is listed");

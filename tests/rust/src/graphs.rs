@@ -142,13 +142,15 @@ pub fn draw_length(random: &mut Random, needed: usize) -> usize {
 pub struct Process {
     pub graph: Graph,
     pub marks: Vec<usize>,
+    pub start_leasts: Vec<i64>,
+    pub start_mosts: Vec<i64>,
     pub copies: usize,
 }
 
 impl Process {
     pub fn templates(&self) -> Templates<'_> {
         let rules: Rules = self.graph.rules();
-        Templates { rules, marks: &self.marks }
+        Templates { rules, marks: &self.marks, start_leasts: &self.start_leasts, start_mosts: &self.start_mosts }
     }
 }
 
@@ -160,6 +162,8 @@ pub fn any_process(random: &mut Random) -> Process {
     let copies = if random.once_in(3) { random.below(around + 3) } else { 1 + random.below(6) };
     let mut graph = careless(random, p, count);
     let mut marks: Vec<usize> = (0..count).map(|_| random.below(2)).collect();
+    let delays = some_delays(random);
+    let (mut start_leasts, mut start_mosts): (Vec<i64>, Vec<i64>) = (0..count).map(|_| draw_interval(random, delays)).unzip();
     if random.once_in(5) {
         put_fault(random, &mut graph);
     }
@@ -167,5 +171,13 @@ pub fn any_process(random: &mut Random) -> Process {
         let mark = random.pick(&[2, 3, 1 << 32, (1 << 32) + 1, usize::MAX]);
         replace(random, &mut marks, mark);
     }
-    Process { graph, marks, copies }
+    if random.once_in(4) {
+        let start = random.pick(&[-1_000_001, 1_000_001, 1 << 32, i64::MIN, i64::MAX]);
+        let list = if random.once_in(2) { &mut start_leasts } else { &mut start_mosts };
+        replace(random, list, start);
+    }
+    if random.once_in(20) {
+        start_mosts.push(0);
+    }
+    Process { graph, marks, start_leasts, start_mosts, copies }
 }

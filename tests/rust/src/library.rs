@@ -1,6 +1,6 @@
 //! The C entries of the static library, as include/crankforest.h declares them, and safe functions over them on slices.
 
-/// The four lists of a graph's rules. They may differ in length: that is refusal 1.
+/// The four lists of a graph's rules. They may differ in length: that is refusal 22.
 #[derive(Clone, Copy, Debug)]
 pub struct Rules<'a> {
     pub sources: &'a [usize],
@@ -60,6 +60,27 @@ impl Answer {
     }
 }
 
+/// The answer under hard deadlines. `refusal` is 0 where nothing is refused.
+#[derive(Clone, Copy, Debug, PartialEq, Eq)]
+pub struct HardAnswer {
+    pub refusal: usize,
+    pub place: usize,
+    pub least: i64,
+    pub most: i64,
+    pub source_depth: usize,
+    pub target_depth: usize,
+}
+
+impl HardAnswer {
+    pub fn refused(number: usize, place: usize) -> HardAnswer {
+        HardAnswer { refusal: number, place, least: 0, most: 0, source_depth: 0, target_depth: 0 }
+    }
+
+    pub fn found(least: i64, most: i64, source_depth: usize, target_depth: usize) -> HardAnswer {
+        HardAnswer { refusal: 0, place: 0, least, most, source_depth, target_depth }
+    }
+}
+
 /// The answer of the unfolding.
 #[derive(Clone, Copy, Debug, PartialEq, Eq)]
 pub struct Unfolded {
@@ -79,11 +100,13 @@ impl Unfolded {
     }
 }
 
-/// The five lists of a process graph's templates.
+/// The seven lists of a process graph's templates.
 #[derive(Clone, Copy, Debug)]
 pub struct Templates<'a> {
     pub rules: Rules<'a>,
     pub marks: &'a [usize],
+    pub start_leasts: &'a [i64],
+    pub start_mosts: &'a [i64],
 }
 
 /// How many places stand behind each lent list that are not lent, so that a write past its end shows.
@@ -189,6 +212,48 @@ extern "C" {
         target_depth: *mut usize,
     ) -> usize;
 
+    fn crankforest_hard(
+        n: usize,
+        sources: *const usize,
+        sources_length: usize,
+        targets: *const usize,
+        targets_length: usize,
+        leasts: *const i64,
+        leasts_length: usize,
+        mosts: *const i64,
+        mosts_length: usize,
+        s: usize,
+        t: usize,
+        place: *mut usize,
+        least: *mut i64,
+        most: *mut i64,
+        source_depth: *mut usize,
+        target_depth: *mut usize,
+    ) -> usize;
+
+    fn crankforest_hard_schedule(
+        n: usize,
+        sources: *const usize,
+        sources_length: usize,
+        targets: *const usize,
+        targets_length: usize,
+        leasts: *const i64,
+        leasts_length: usize,
+        mosts: *const i64,
+        mosts_length: usize,
+        s: usize,
+        t: usize,
+        times: *mut i64,
+        times_length: usize,
+        delays: *mut i64,
+        delays_length: usize,
+        place: *mut usize,
+        least: *mut i64,
+        most: *mut i64,
+        source_depth: *mut usize,
+        target_depth: *mut usize,
+    ) -> usize;
+
     fn crankforest_unfold(
         p: usize,
         copies: usize,
@@ -202,6 +267,10 @@ extern "C" {
         mosts_length: usize,
         marks: *const usize,
         marks_length: usize,
+        start_leasts: *const i64,
+        start_leasts_length: usize,
+        start_mosts: *const i64,
+        start_mosts_length: usize,
         out_sources: *mut usize,
         out_sources_length: usize,
         out_targets: *mut usize,
@@ -300,6 +369,67 @@ pub fn coarse(n: usize, rules: Rules, s: usize, t: usize, q: usize) -> Answer {
     answer
 }
 
+fn unwritten_ends() -> HardAnswer {
+    let held = HELD as i64;
+    HardAnswer { refusal: HELD, place: HELD, least: held, most: held, source_depth: HELD, target_depth: HELD }
+}
+
+/// The least and the greatest t(t) - t(s) over all times that meet every rule on its own, and both depths.
+pub fn hard(n: usize, rules: Rules, s: usize, t: usize) -> HardAnswer {
+    let mut answer = unwritten_ends();
+    answer.refusal = unsafe {
+        crankforest_hard(
+            n,
+            rules.sources.as_ptr(),
+            rules.sources.len(),
+            rules.targets.as_ptr(),
+            rules.targets.len(),
+            rules.leasts.as_ptr(),
+            rules.leasts.len(),
+            rules.mosts.as_ptr(),
+            rules.mosts.len(),
+            s,
+            t,
+            &mut answer.place,
+            &mut answer.least,
+            &mut answer.most,
+            &mut answer.source_depth,
+            &mut answer.target_depth,
+        )
+    };
+    answer
+}
+
+/// The same, and the latest such schedule against s in the two lent lists.
+pub fn hard_schedule(n: usize, rules: Rules, s: usize, t: usize, times: &mut [i64], delays: &mut [i64]) -> HardAnswer {
+    let mut answer = unwritten_ends();
+    answer.refusal = unsafe {
+        crankforest_hard_schedule(
+            n,
+            rules.sources.as_ptr(),
+            rules.sources.len(),
+            rules.targets.as_ptr(),
+            rules.targets.len(),
+            rules.leasts.as_ptr(),
+            rules.leasts.len(),
+            rules.mosts.as_ptr(),
+            rules.mosts.len(),
+            s,
+            t,
+            times.as_mut_ptr(),
+            times.len(),
+            delays.as_mut_ptr(),
+            delays.len(),
+            &mut answer.place,
+            &mut answer.least,
+            &mut answer.most,
+            &mut answer.source_depth,
+            &mut answer.target_depth,
+        )
+    };
+    answer
+}
+
 /// The event graph of a process graph with p events, unfolded `copies` times, in the four lent lists.
 pub fn unfold(p: usize, copies: usize, templates: Templates, out: &mut Written) -> Unfolded {
     let rules = templates.rules;
@@ -318,6 +448,10 @@ pub fn unfold(p: usize, copies: usize, templates: Templates, out: &mut Written) 
             rules.mosts.len(),
             templates.marks.as_ptr(),
             templates.marks.len(),
+            templates.start_leasts.as_ptr(),
+            templates.start_leasts.len(),
+            templates.start_mosts.as_ptr(),
+            templates.start_mosts.len(),
             out.sources.as_mut_ptr(),
             out.lent[0],
             out.targets.as_mut_ptr(),

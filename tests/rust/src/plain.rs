@@ -1,7 +1,7 @@
 //! The analysis in plain Rust, written from 01: the checks in 01's order, Kahn's order, depths, m back from s, U on from the root, the schedule, the
-//! rounding and the unfolding. It is what the library is compared with.
+//! rounding, the rounds with hard deadlines and the unfolding. It is what the library is compared with.
 
-use crate::library::{Answer, Rules, Templates, Unfolded, Written};
+use crate::library::{Answer, HardAnswer, Rules, Templates, Unfolded, Written};
 
 pub const MOST_EVENTS: usize = 1_024;
 pub const MOST_RULES: usize = 4_096;
@@ -24,10 +24,12 @@ fn refuse<T>(number: usize, place: usize) -> Result<T, Refusal> {
 fn check_counts(n: usize, rules: Rules) -> Result<(), Refusal> {
     let r = rules.sources.len();
     let alike = rules.targets.len() == r && rules.leasts.len() == r && rules.mosts.len() == r;
-    if alike && (1..=MOST_EVENTS).contains(&n) && r <= MOST_RULES {
-        Ok(())
+    if !(1..=MOST_EVENTS).contains(&n) {
+        refuse(21, 0)
+    } else if !alike || r > MOST_RULES {
+        refuse(22, 0)
     } else {
-        refuse(1, 0)
+        Ok(())
     }
 }
 
@@ -74,6 +76,25 @@ struct Arranged {
     order: Vec<usize>,
 }
 
+/// The lowest event that lies on a cycle: the first from which rules lead back to it.
+fn lowest_on_cycle(n: usize, rules: Rules, out_of: &[Vec<usize>]) -> usize {
+    let leads_back = |v: usize| {
+        let mut seen = vec![false; n];
+        let mut next = vec![v];
+        while let Some(u) = next.pop() {
+            for &i in &out_of[u] {
+                let w = rules.targets[i];
+                if !seen[w] {
+                    seen[w] = true;
+                    next.push(w);
+                }
+            }
+        }
+        seen[v]
+    };
+    (0..n).find(|&v| leads_back(v)).expect("there is a cycle")
+}
+
 /// Kahn's order, or refusal 5.
 fn arrange(n: usize, rules: Rules) -> Result<Arranged, Refusal> {
     let mut into = vec![Vec::new(); n];
@@ -96,7 +117,7 @@ fn arrange(n: usize, rules: Rules) -> Result<Arranged, Refusal> {
         next += 1;
     }
     if order.len() < n {
-        return refuse(5, 0);
+        return refuse(5, lowest_on_cycle(n, rules, &out_of));
     }
     Ok(Arranged { into, out_of, order })
 }
@@ -191,8 +212,11 @@ pub fn exact(n: usize, rules: Rules, s: usize, t: usize) -> Answer {
 // ---- the schedule
 
 pub fn schedule(n: usize, rules: Rules, s: usize, t: usize, times: &mut [i64], delays: &mut [i64]) -> Answer {
+    if let Err(refusal) = check_counts(n, rules) {
+        return Answer::refused(refusal.number, refusal.place);
+    }
     if times.len() < n || delays.len() < rules.sources.len() {
-        return Answer::refused(1, 0);
+        return Answer::refused(23, 0);
     }
     let found = try_exact(n, rules, s, t);
     if let Ok(latest) = &found {
@@ -229,21 +253,106 @@ fn try_coarse(n: usize, rules: Rules, s: usize, t: usize, q: usize) -> Result<La
     latest(n, Rules { leasts: &leasts, mosts: &mosts, ..rules }, s)
 }
 
+// ---- hard deadlines
+
+/// The greatest t(v) - t(s) of every event over all times that meet every rule: shortest ways from s, where a rule leads on at its most delay and back
+/// at minus its least; none where a way back to its start is shorter than nothing.
+pub fn hard_gaps(n: usize, rules: Rules, s: usize) -> Option<Vec<i64>> {
+    const FAR: i64 = i64::MAX / 4;
+    let mut gaps = vec![FAR; n];
+    gaps[s] = 0;
+    for _ in 0..=n {
+        let mut changed = false;
+        for i in 0..rules.sources.len() {
+            let (source, target) = (rules.sources[i], rules.targets[i]);
+            for (from, to, weight) in [(source, target, rules.mosts[i]), (target, source, -rules.leasts[i])] {
+                if gaps[from] < FAR && gaps[from] + weight < gaps[to] {
+                    gaps[to] = gaps[from] + weight;
+                    changed = true;
+                }
+            }
+        }
+        if !changed {
+            return Some(gaps);
+        }
+    }
+    None
+}
+
+pub fn try_hard(n: usize, rules: Rules, s: usize, t: usize) -> Result<(HardAnswer, Vec<i64>), Refusal> {
+    let ordinary = try_exact(n, rules, s, t)?;
+    match (hard_gaps(n, rules, s), hard_gaps(n, rules, t)) {
+        (Some(against_s), Some(against_t)) => {
+            let (least, most) = (-against_t[s], against_s[t]);
+            Ok((HardAnswer::found(least, most, ordinary.depths[s], ordinary.depths[t]), against_s))
+        }
+        _ => refuse(10, 0),
+    }
+}
+
+pub fn hard(n: usize, rules: Rules, s: usize, t: usize) -> HardAnswer {
+    match try_hard(n, rules, s, t) {
+        Ok((answer, _)) => answer,
+        Err(refusal) => HardAnswer::refused(refusal.number, refusal.place),
+    }
+}
+
+pub fn hard_schedule(n: usize, rules: Rules, s: usize, t: usize, times: &mut [i64], delays: &mut [i64]) -> HardAnswer {
+    if let Err(refusal) = check_counts(n, rules) {
+        return HardAnswer::refused(refusal.number, refusal.place);
+    }
+    if times.len() < n || delays.len() < rules.sources.len() {
+        return HardAnswer::refused(23, 0);
+    }
+    match try_hard(n, rules, s, t) {
+        Ok((answer, gaps)) => {
+            for (time, gap) in times.iter_mut().zip(&gaps) {
+                *time = gap - gaps[0];
+            }
+            for i in 0..rules.sources.len() {
+                delays[i] = times[rules.targets[i]] - times[rules.sources[i]];
+            }
+            answer
+        }
+        Err(refusal) => HardAnswer::refused(refusal.number, refusal.place),
+    }
+}
+
 // ---- the unfolding
+
+/// Whether template i's delays are outside, or its start interval, which only mark 1 has looked at.
+fn intervals_outside(templates: Templates, i: usize) -> bool {
+    let rules = templates.rules;
+    let start = |bounds: &[i64]| if templates.marks[i] == 1 { bounds[i] } else { 0 };
+    let outside = |least: i64, most: i64| least < -MOST_DELAY || most > MOST_DELAY || least > most;
+    outside(rules.leasts[i], rules.mosts[i]) || outside(start(templates.start_leasts), start(templates.start_mosts))
+}
 
 /// The counts of events and rules, or a refusal.
 fn check_process(p: usize, copies: usize, templates: Templates, places: usize) -> Result<(usize, usize), Refusal> {
     let rules = templates.rules;
     let count = rules.sources.len();
-    let lengths = [rules.targets.len(), rules.leasts.len(), rules.mosts.len(), templates.marks.len()];
+    let starts = [templates.start_leasts.len(), templates.start_mosts.len()];
+    let lengths = [rules.targets.len(), rules.leasts.len(), rules.mosts.len(), templates.marks.len(), starts[0], starts[1]];
+    if !(1..MOST_EVENTS).contains(&p) {
+        return refuse(21, 0);
+    }
+    if count > MOST_RULES || lengths.iter().any(|&length| length != count) {
+        return refuse(22, 0);
+    }
     let occurrences = p.checked_mul(copies).filter(|&o| (1..MOST_EVENTS).contains(&o));
-    let written = count.checked_mul(copies).filter(|&w| w <= MOST_RULES && w <= places);
+    let written = count.checked_mul(copies).filter(|&w| w <= MOST_RULES);
     let (events, written) = match (occurrences, written) {
-        (Some(o), Some(w)) if lengths.iter().all(|&length| length == count) => (1 + o, w),
-        _ => return refuse(1, 0),
+        (Some(o), Some(w)) => (1 + o, w),
+        _ => return refuse(24, 0),
     };
+    if places < written {
+        return refuse(23, 0);
+    }
     check_events(p, rules)?;
-    check_delays(rules)?;
+    if let Some(template) = (0..count).find(|&i| intervals_outside(templates, i)) {
+        return refuse(3, template);
+    }
     match templates.marks.iter().position(|&mark| mark > 1) {
         Some(template) => refuse(7, template),
         None => Ok((events, written)),
@@ -269,8 +378,8 @@ fn write_unfolding(p: usize, copies: usize, templates: Templates, out: &mut Writ
             let starts = templates.marks[i] == 1 && k == 0;
             out.sources[at] = if starts { 0 } else { 1 + (k - templates.marks[i]) * p + rules.sources[i] };
             out.targets[at] = 1 + k * p + rules.targets[i];
-            out.leasts[at] = if starts { 0 } else { rules.leasts[i] };
-            out.mosts[at] = if starts { 0 } else { rules.mosts[i] };
+            out.leasts[at] = if starts { templates.start_leasts[i] } else { rules.leasts[i] };
+            out.mosts[at] = if starts { templates.start_mosts[i] } else { rules.mosts[i] };
             at += 1;
         }
     }

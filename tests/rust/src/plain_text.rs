@@ -55,7 +55,7 @@ fn read_row(row: &[u8], graph: &mut Graph) -> Option<()> {
     Some(())
 }
 
-/// The graph of a text, or refusal 1 for the bytes, 8, or 1 for the counts.
+/// The graph of a text, or refusal 1 for the bytes, 8, 21 or 22.
 pub fn read(text: &[u8]) -> Result<Graph, Refusal> {
     if text.len() > MOST_BYTES {
         return Err(Refusal { number: 1, place: 0 });
@@ -70,8 +70,11 @@ pub fn read(text: &[u8]) -> Result<Graph, Refusal> {
             return Err(Refusal { number: 8, place: i + 1 });
         }
     }
-    if graph.events > MOST_EVENTS || graph.sources.len() > MOST_ROWS {
-        return Err(Refusal { number: 1, place: 0 });
+    if graph.events > MOST_EVENTS {
+        return Err(Refusal { number: 21, place: 0 });
+    }
+    if graph.sources.len() > MOST_ROWS {
+        return Err(Refusal { number: 22, place: 0 });
     }
     Ok(graph)
 }

@@ -256,16 +256,19 @@ pub fn draw_process(random: &mut Random) -> GivenProcess {
         marks.push(if source < target { random.below(2) } else { 1 });
     }
     let mut templates = as_given(p, &rules);
+    let starts: Vec<Rule> = rules.iter().map(|rule| draw_rule(random, 0, rule.target)).collect();
+    let mut starts = as_given(p, &starts);
     if random.once_in(4) {
-        put_process_fault(random, &mut templates, &mut marks, &mut copies);
+        put_process_fault(random, &mut templates, &mut starts, &mut marks, &mut copies);
     }
     let needed = templates.sources.len().saturating_mul(copies);
     let lent = [0; 4].map(|_| draw_length(random, needed));
-    GivenProcess { templates, marks, copies, lent }
+    GivenProcess { templates, marks, start_leasts: starts.leasts, start_mosts: starts.mosts, copies, lent }
 }
 
-fn put_process_fault(random: &mut Random, templates: &mut Given, marks: &mut Vec<usize>, copies: &mut usize) {
-    match random.below(9) {
+/// A fault of a process graph. The start intervals are those of `starts`, as if each were a rule.
+fn put_process_fault(random: &mut Random, templates: &mut Given, starts: &mut Given, marks: &mut Vec<usize>, copies: &mut usize) {
+    match random.below(13) {
         0 => name_unknown_event(random, templates),
         1 => put_bad_delay(random, templates),
         2 => change_a_length(random, templates),
@@ -273,10 +276,17 @@ fn put_process_fault(random: &mut Random, templates: &mut Given, marks: &mut Vec
         4 => templates.events = random.pick(&[0, 1_024, 1 << 32, 1 << 63, usize::MAX]),
         5 => *copies = random.pick(&[0, 1_023, 1_024, 1_025, 1 << 62, usize::MAX]),
         6 | 7 => put_bad_mark(random, marks),
+        8 => {
+            put_bad_delay(random, starts);
+            put_bad_delay(random, templates);
+        }
+        9 | 10 => put_bad_delay(random, starts),
+        11 => change_length(if random.once_in(2) { &mut starts.leasts } else { &mut starts.mosts }, random.once_in(2)),
         _ => *templates = as_given(31, &[Rule { source: 30, target: 30, least: -1, most: 1 }]),
     }
     if templates.events == 31 {
         *marks = vec![random.below(2)];
+        *starts = as_given(31, &[Rule { source: 0, target: 30, least: -2, most: 3 }]);
         *copies = random.pick(&[32, 33, 34]);
     }
 }

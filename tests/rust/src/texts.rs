@@ -91,9 +91,9 @@ fn known_rows() -> Vec<(Vec<u8>, String)> {
         ("0,1,0,1\r\n0,1,0,1\u{0}\r\n", bad(3)),
         // 8 before the counts, the counts before the analysis
         ("0,70,0,1\r\nx\r\n", bad(3)),
-        ("0,64,0,1\r\n", refused(1, 0)),
-        ("0,9999999,0,1\r\n", refused(1, 0)),
-        ("0,64,5,1\r\n", refused(1, 0)),
+        ("0,64,0,1\r\n", refused(21, 0)),
+        ("0,9999999,0,1\r\n", refused(21, 0)),
+        ("0,64,5,1\r\n", refused(21, 0)),
         // the analysis: rules and events are counted from 0
         ("0,1,2,1\r\n", refused(3, 0)),
         ("0,1,0,1\r\n0,1,0,1000001\r\n", refused(3, 1)),
@@ -101,7 +101,10 @@ fn known_rows() -> Vec<(Vec<u8>, String)> {
         ("0,1,0,9999999\r\n", refused(3, 0)),
         ("0,0,0,0\r\n", refused(5, 0)),
         ("0,1,0,1\r\n1,0,0,1\r\n", refused(5, 0)),
-        ("0,1,0,1\r\n2,3,0,1\r\n3,2,0,1\r\n", refused(5, 0)),
+        ("0,1,0,1\r\n2,3,0,1\r\n3,2,0,1\r\n", refused(5, 2)),
+        // event 2 stands behind the cycle
+        ("0,1,0,1\r\n3,4,0,1\r\n4,3,0,1\r\n3,2,0,1\r\n0,3,0,1\r\n", refused(5, 3)),
+        ("0,12,0,1\r\n12,11,0,1\r\n11,12,0,1\r\n", refused(5, 11)),
         ("1,0,0,1\r\n", refused(6, 1)),
         ("0,1,0,1\r\n2,1,0,1\r\n", refused(6, 2)),
         ("0,2,0,1\r\n", refused(6, 1)),
@@ -140,11 +143,12 @@ fn known_whole() -> Vec<(Vec<u8>, String)> {
         (vec![b'x'; 32_769], refused(1, 0)),
         (vec![0; 100_000], refused(1, 0)),
         (repeated("0,1,0,1\r\n", 1_024), "from,to,least,most\r\n0,1,0,1\r\n".to_string()),
-        (repeated("0,1,0,1\r\n", 1_025), refused(1, 0)),
+        (repeated("0,1,0,1\r\n", 1_025), refused(22, 0)),
+        (repeated("0,64,0,1\r\n", 1_025), refused(21, 0)),
         (bad_after_many, refused(8, 1_102)),
         (last_place, refused(8, 3_639)),
         (chain(64), chain_table(64)),
-        (chain(65), refused(1, 0)),
+        (chain(65), refused(21, 0)),
     ]
 }
 
@@ -187,13 +191,15 @@ pub fn known_separations() -> Vec<(Vec<u8>, usize, usize, i64)> {
         ("1,1,0,0\r\n", 0, 1, REFUSED - 5),
         ("0,2,0,0\r\n", 0, 2, REFUSED - 6),
         ("0,2,0,0\r\n", 0, 3, REFUSED - 4),
-        ("0,64,0,0\r\n", 99, 0, REFUSED - 1),
+        ("0,64,0,0\r\n", 99, 0, REFUSED - 21),
         ("x", 99, 0, REFUSED - 8),
     ];
     let mut known: Vec<(Vec<u8>, usize, usize, i64)> =
         cases.iter().map(|&(rows, s, t, number)| (with_header(rows), s, t, number)).collect();
     known.push((vec![], 0, 0, REFUSED - 8));
     known.push((vec![b'x'; 32_769], 0, 0, REFUSED - 1));
+    known.push((repeated("0,1,0,1\r\n", 1_025), 0, 1, REFUSED - 22));
+    known.push((repeated("0,64,0,1\r\n", 1_025), 0, 1, REFUSED - 21));
     known
 }
 

@@ -5,9 +5,10 @@ use std::env;
 use std::path::{Path, PathBuf};
 use std::process::Command;
 
-/// How many checks caller.c makes, without the entries on text and of them.
-const CHECKS: usize = 170;
+/// How many checks caller.c makes: without claims and the entries on text, of the entries on text, and of claims.
+const CHECKS: usize = 221;
 const TEXT_CHECKS: usize = 17;
+const CLAIM_CHECKS: usize = 24;
 
 fn built(name: &str, warnings: &[&str]) -> PathBuf {
     let folder = Path::new(env!("CARGO_MANIFEST_DIR"));
@@ -28,7 +29,7 @@ fn built(name: &str, warnings: &[&str]) -> PathBuf {
 fn the_c_caller_finds_all_right() {
     let program = built("caller", &["-Wall", "-Wextra", "-Werror", "-Wpedantic"]);
     let output = programs::command(&program).output().expect("the caller runs");
-    let checks = CHECKS + if cfg!(feature = "text") { TEXT_CHECKS } else { 0 };
+    let checks = CHECKS + CLAIM_CHECKS + if cfg!(feature = "text") { TEXT_CHECKS } else { 0 };
     assert_eq!(String::from_utf8_lossy(&output.stdout), format!("{} right, 0 wrong\n", checks));
     assert!(output.status.success());
 }

@@ -4,7 +4,7 @@ use crankforest_tests::programs::cases;
 use crankforest_tests::graphs::{
     accepted, any, any_process, careless, draw_event, draw_interval, draw_length, draw_step, some_delays,
 };
-use crankforest_tests::library::{self, lent_list, Answer, Graph, Rules, Written, BEHIND};
+use crankforest_tests::library::{self, lent_list, Answer, Graph, HardAnswer, Rules, Written, BEHIND};
 use crankforest_tests::plain;
 use crankforest_tests::random::Random;
 
@@ -162,6 +162,84 @@ fn moved(random: &mut Random, graph: &Graph, e: i64) -> Graph {
         near.mosts[i] = random.between((most - e).max(near.leasts[i]).min(most), (most + e).min(1_000_000));
     }
     near
+}
+
+/// Asks both forms under hard deadlines of both; the answer.
+fn compare_hard(random: &mut Random, graph: &Graph) -> HardAnswer {
+    let (n, rules) = (graph.events, graph.rules());
+    let (s, t) = (draw_event(random, n), draw_event(random, n));
+    let hard = library::hard(n, rules, s, t);
+    assert_eq!(hard, plain::hard(n, rules, s, t), "hard, s = {}, t = {}: {:?}", s, t, graph);
+    let lengths = (draw_length(random, n), draw_length(random, rules.sources.len()));
+    let (mut times, mut delays) = (lent_list(lengths.0 + BEHIND), lent_list(lengths.1 + BEHIND));
+    let (mut due_times, mut due_delays) = (times.clone(), delays.clone());
+    let lent = (&mut times[..lengths.0], &mut delays[..lengths.1]);
+    let answer = library::hard_schedule(n, rules, s, t, lent.0, lent.1);
+    let due_lent = (&mut due_times[..lengths.0], &mut due_delays[..lengths.1]);
+    let due = plain::hard_schedule(n, rules, s, t, due_lent.0, due_lent.1);
+    assert_eq!(answer, due, "hard schedule, s = {}, t = {}, lent {:?}: {:?}", s, t, lengths, graph);
+    assert_eq!((times, delays), (due_times, due_delays), "s = {}, t = {}, lent {:?}: {:?}", s, t, lengths, graph);
+    hard
+}
+
+/// The graph with delays that hold the differences of some times, so that these times meet every rule.
+fn meetable(random: &mut Random, graph: &Graph) -> Graph {
+    let times: Vec<i64> = (0..graph.events).map(|_| random.below(200_000) as i64 - 100_000).collect();
+    let mut met = Graph::new(graph.events, &[]);
+    for (&source, &target) in graph.sources.iter().zip(&graph.targets) {
+        let between = times[target] - times[source];
+        met.add(source, target, between - random.below(1_000) as i64, between + random.below(1_000) as i64);
+    }
+    met
+}
+
+#[test]
+fn hard_deadlines() {
+    let mut random = Random::new(29);
+    let mut seen = [0; 11];
+    for _ in 0..cases(20_000) {
+        let graph = any(&mut random, 12);
+        seen[compare_hard(&mut random, &graph).refusal] += 1;
+    }
+    assert!(seen[0] > 0 && seen[10] > 0, "{:?}", seen);
+    for i in 0..cases(400) {
+        let n = if i % 20 == 0 { 1_024 } else { 1 + random.below(100) };
+        let graph = accepted(&mut random, n, 4 * n);
+        let met = meetable(&mut random, &graph);
+        let (s, t) = (random.below(n), random.below(n));
+        let hard = library::hard(n, met.rules(), s, t);
+        assert_eq!(hard, plain::hard(n, met.rules(), s, t), "{:?}", met);
+        assert_eq!(hard.refusal, 0);
+        let ordinary = library::exact(n, met.rules(), s, t);
+        assert!(hard.least <= hard.most && hard.most <= ordinary.separation, "{:?}, {:?}", hard, ordinary);
+    }
+}
+
+#[test]
+fn near_graphs_have_near_answers_under_hard_deadlines() {
+    let mut random = Random::new(31);
+    let mut both = 0;
+    for _ in 0..cases(4_000) {
+        let n = 1 + random.below(12);
+        let r = n + random.below(n);
+        let graph = accepted(&mut random, n, r);
+        let graph = meetable(&mut random, &graph);
+        let e = random.pick(&[0, 1, 2, 10, 1_000]);
+        let near = moved(&mut random, &graph, e);
+        let (s, t) = (random.below(n), random.below(n));
+        let (a, b) = (library::hard(n, graph.rules(), s, t), library::hard(n, near.rules(), s, t));
+        if (a.refusal, b.refusal) == (0, 0) {
+            let limit = e * (n as i64 - 1);
+            let far = (a.most - b.most).abs().max((a.least - b.least).abs());
+            assert!(far <= limit, "e = {}, {:?}, {:?}", e, a, b);
+            both += 1;
+        }
+    }
+    assert!(both > 0);
+    // a chain of n events meets the limit
+    let chain = |most| Graph::new(4, &[(0, 1, 0, most), (1, 2, 0, most), (2, 3, 0, most)]);
+    let [a, b] = [10, 13].map(|most| library::hard(4, chain(most).rules(), 0, 3).most);
+    assert_eq!(b - a, 3 * 3);
 }
 
 /// A chain of rules [0, 0] moved to [e, e] or [-e, -e] meets the limit exactly.

@@ -1,13 +1,14 @@
 -- The firmware's entry: the answer's separation as it stands, or the number that stands for its refusal.
 use mathlib.Core.Path.{refl}
 use Prim.Native.Nat.{_≤_}
+use native.Mathlib.Omega.{arith}
 use lib.Dec.{lit<}
 use mir.Syntax.{w64}
 use mir.ValLaws.{toZ-ofZ}
 use borrow.Author.Needs.{needs}
 use Rattle.integers.proofs.Word.{within-fits}
 use Rattle.text.proofs.Answered.{number-small}
-use Rattle.crankforest.proofs.EntryNumbers.{within-8, refused-fits, refused-number}
+use Rattle.crankforest.proofs.EntryNumbers.{within-24, refused-fits, refused-number}
 use Rattle.crankforest.proofs.crankforest_separation.Statement.{statement}
 use Rattle.crankforest.proofs.crankforest_separation.Tie as tie
 
@@ -23,11 +24,11 @@ returns c =
           rw (toZ-ofZ w64 (c .before .before .text-separation .result .separation) (record { sfits = search (c .struct-told .given) }), c .before .if1 .taken) refl;
     }
 
-small : (c : tie.Else1) → c .before .text-separation .result .refusal ≤ 8
-small c = number-small (c .before .text-separation .ensures)
+small : (c : tie.Else1) → c .before .text-separation .result .refusal ≤ 24
+small c = omega (arith, number-small (c .before .text-separation .ensures))
 
 cast-result : tie.Need-cast-result
-cast-result c = within-fits w64 8 _ (lit< tt) (within-8 _ (small c))
+cast-result c = within-fits w64 24 _ (lit< tt) (within-24 _ (small c))
 
 sub-result : tie.Need-sub-result
 sub-result c = refused-fits _ (small c)

@@ -14,7 +14,7 @@ use Rattle.processes.proofs.unfold.Statement.{statement}
 use Rattle.processes.proofs.unfold.Tie as tie
 
 abbrev graph : tie.Start → ProcessGraph
-graph a = processOf (a .args .p) (now (a .args .sources)) (now (a .args .targets)) (now (a .args .leasts)) (now (a .args .mosts)) (now (a .args .marks))
+graph a = processOf (a .args .p) (now (a .args .sources)) (now (a .args .targets)) (now (a .args .leasts)) (now (a .args .mosts)) (now (a .args .marks)) (now (a .args .start-leasts)) (now (a .args .start-mosts))
 
 -- the answer, whether or not it is a refusal
 answered : (c : tie.After-check-process) →

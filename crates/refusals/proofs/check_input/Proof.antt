@@ -4,13 +4,13 @@ use Prim.Native.Nat.{ℕ, _<_}
 use denote.Ref.{now}
 use native.Mathlib.Omega.{arith}
 use borrow.Author.Needs.{needs}
-use borrow.Author.Tests.{not-true, not-false}
 use Rattle.verdicts.specs.Verdict.{FirstOf}
 use Rattle.graphs.specs.Graph.{Graph, graphOf, rules}
 use Rattle.graphs.specs.Limits.{CountsKept, EndsKept, Sized}
 use Rattle.graphs.specs.Refusal.{questionChecksTo}
 use Rattle.refusals.specs.Question.{delayLimit}
-use Rattle.refusals.proofs.Question.{lowest-unknown, all-ends-kept, lowest-beyond, all-delays-kept, input-1, input-2, input-3, input-4-source, input-4-target, kept-accepted}
+use Rattle.refusals.proofs.Question.{lowest-unknown, all-ends-kept, lowest-beyond, all-delays-kept, input-2, input-3, input-4-source, input-4-target, kept-accepted}
+use Rattle.refusals.proofs.Counts.{counts-of, counts-given}
 use Rattle.refusals.proofs.check_input.Statement.{statement}
 use Rattle.refusals.proofs.check_input.Tie as tie
 
@@ -20,7 +20,7 @@ abbrev graph : tie.Start → Graph
 graph a = graphOf (a .args .n) (now (a .args .sources)) (now (a .args .targets)) (now (a .args .leasts)) (now (a .args .mosts))
 
 counts : (c : tie.Else1) → CountsKept (graph (c .before .before .before .before))
-counts c = c .before .counts-kept .ensures .kept (not-false _ (c .if1 .left))
+counts c = counts-of (c .if1 .left) (c .before .check-counts .ensures)
 
 ends : (c : tie.Else2) (i : ℕ) → i < rules (graph (c .before .before .before .before .before .before)) → EndsKept (graph (c .before .before .before .before .before .before)) i
 ends c = all-ends-kept (counts (c .before .before) .targets-match) (c .before .unknown-event .ensures) (c .if2 .left)
@@ -37,11 +37,11 @@ sized c =
 
 -- ---- the needs
 
-counts-kept-requires : tie.Need-counts-kept-requires
-counts-kept-requires c κs = search needs
+check-counts-requires : tie.Need-check-counts-requires
+check-counts-requires c κs = search needs
 
 returns : tie.Need-returns
-returns c = input-1 (c .before .counts-kept .ensures .outside (not-true _ (c .if1 .taken)))
+returns c = counts-given _ (c .if1 .taken) (c .before .check-counts .ensures)
 
 unknown-event-requires : tie.Need-unknown-event-requires
 unknown-event-requires c κs = search needs
@@ -78,7 +78,7 @@ pub check-input-spec : {M : Type 1} → statement M
 check-input-spec =
     tie.close
     (tie.spec
-    counts-kept-requires
+    check-counts-requires
     returns
     unknown-event-requires
     returns-2

@@ -1,6 +1,6 @@
 -- The answer of the analysis, with the separation read off.
 --     AnswerFound b g s t us a      == what an answer that is no refusal holds: us holds U, and a its value at t and both depths
---     AnswerAnalysed limit g s t us a == a is one of the refusals 1 to 6, or holds what was found
+--     AnswerAnalysed limit g s t us a == a is one of the refusals, or holds what was found
 -- Assumes nothing.
 use mathlib.Core.Path.{_≡_}
 use mathlib.Core.List.{List}

@@ -1,8 +1,9 @@
--- `read_rules` meets its contract: what `scan`, `beyond` and `write_rules` promise, put together. Assumes nothing.
+-- `read_rules` meets its contract: what `scan`, `check_counts` and `write_rules` promise, put together. Assumes nothing.
+use mathlib.Core.Path.{sym, _∙_}
 use native.Mathlib.Omega.{arith}
 use denote.Ref.{now}
 use borrow.Author.Needs.{needs}
-use Rattle.text.proofs.Verdicts.{read-long, read-broken, read-beyond, read-right, room, lists-refused, lists-written}
+use Rattle.text.proofs.Verdicts.{read-long, read-broken, read-counted, read-right, room, lists-refused, lists-written}
 use Rattle.text.proofs.read_rules.Statement.{statement}
 use Rattle.text.proofs.read_rules.Tie as tie
 
@@ -18,8 +19,8 @@ scan-requires c κs = search needs
 returns-2 : tie.Need-returns-2
 returns-2 c = (read-broken (now (c .before .before .before .before .before .before .before .args .text)) (c .before .before .before .if1 .left) (c .before .before .scan .ensures) (c .if2 .taken), lists-refused (c .if2 .taken))
 
-beyond-requires : tie.Need-beyond-requires
-beyond-requires c κs = search needs
+check-counts-requires : tie.Need-check-counts-requires
+check-counts-requires c κs = search needs
 
 refused-requires-2 : tie.Need-refused-requires-2
 refused-requires-2 c κs = search needs
@@ -28,8 +29,8 @@ returns-3 : tie.Need-returns-3
 returns-3 c =
     let a = c .before .before .before .before .before .before .before .before .before .before .args in
     let b = c .before .before in (
-      read-beyond (now (a .text)) (b .before .before .before .before .if1 .left) (b .before .before .before .scan .ensures) (b .before .if2 .left) (now (a .sources)) (now (a .targets)) (now (a .leasts)) (now (a .mosts)) (b .beyond .ensures .0 (c .before .if3 .taken)) (c .refused2 .ensures),
-      lists-refused (λ e. omega (arith, c .refused2 .ensures .0)),
+      read-counted (now (a .text)) (b .before .before .before .before .if1 .left) (b .before .before .before .scan .ensures) (b .before .if2 .left) (now (a .sources)) (now (a .targets)) (now (a .leasts)) (now (a .mosts)) (c .before .if3 .taken) (b .check-counts .ensures) (c .refused2 .ensures),
+      lists-refused (λ e. c .before .if3 .taken (sym (c .refused2 .ensures .0) ∙ e)),
     )
 
 write-rules-requires : tie.Need-write-rules-requires
@@ -37,7 +38,7 @@ write-rules-requires c κs =
     let a = c .before .before .before .before .before .before .before .before .before .before .before .before .before .args in
     let b = c .before .before .before .before .before in (
       b .before .before .before .before .if1 .left,
-      room (now (a .text)) (b .before .before .before .before .if1 .left) (b .before .before .before .scan .ensures) (b .before .if2 .left) (now (a .sources)) (now (a .targets)) (now (a .leasts)) (now (a .mosts)) (b .beyond .ensures .1 (c .before .before .before .before .if3 .left)),
+      room (now (a .text)) (b .before .before .before .before .if1 .left) (b .before .before .before .scan .ensures) (b .before .if2 .left) (now (a .sources)) (now (a .targets)) (now (a .leasts)) (now (a .mosts)) (c .before .before .before .before .if3 .left) (b .check-counts .ensures),
     )
 
 same-length : tie.Need-same-length
@@ -56,7 +57,7 @@ returns-4 : tie.Need-returns-4
 returns-4 c =
     let a = c .before .before .before .before .before .before .before .before .before .before .before .before .before .before .before .before .before .before .before .before .args in
     let b = c .before .before .before .before .before .before .before .before .before .before .before .before in (
-      read-right (now (a .text)) (b .before .before .before .before .if1 .left) (b .before .before .before .scan .ensures) (b .before .if2 .left) (now (a .sources)) (now (a .targets)) (now (a .leasts)) (now (a .mosts)) (b .beyond .ensures .1 (c .before .before .before .before .before .before .before .before .before .before .before .if3 .left)),
+      read-right (now (a .text)) (b .before .before .before .before .if1 .left) (b .before .before .before .scan .ensures) (b .before .if2 .left) (now (a .sources)) (now (a .targets)) (now (a .leasts)) (now (a .mosts)) (c .before .before .before .before .before .before .before .before .before .before .before .if3 .left) (b .check-counts .ensures),
       lists-written (b .before .if2 .left) (c .before .before .before .before .before .before .write-rules .ensures),
     )
 
@@ -68,7 +69,7 @@ read-rules-spec =
     returns
     scan-requires
     returns-2
-    beyond-requires
+    check-counts-requires
     refused-requires-2
     returns-3
     write-rules-requires

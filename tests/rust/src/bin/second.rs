@@ -6,9 +6,11 @@
 //! how many were compared of each kind and how many differ, the first ten in full. Exit status 1: some differ; 2: it was called wrongly.
 
 use crankforest_tests::all_delays::{
-    choices, depths, greatest, outward, refusal, schedule_fault, unfolding, Form, Given, GivenProcess, Rule,
+    choices, claim_refusal, depths, greatest, hard_greatest, hard_schedule_fault, outward, refusal, schedule_fault,
+    unfolding, verdict, Form, Given, GivenProcess, Rule, Verdict,
 };
-use crankforest_tests::library::{self, lent_list, Answer, Rules, Templates, Unfolded, Written, BEHIND};
+use crankforest_tests::claims::{self, Claim, Judged};
+use crankforest_tests::library::{self, lent_list, Answer, HardAnswer, Rules, Templates, Unfolded, Written, BEHIND};
 use crankforest_tests::random::Random;
 use crankforest_tests::small_graphs::{
     as_graph, draw_event, draw_graph, draw_length, draw_process, draw_step, Drawn, MOST_ROUNDED,
@@ -63,14 +65,14 @@ impl Tally {
     }
 
     fn print(&self) {
-        for form in ["exact", "schedule", "coarse", "unfolding"] {
+        for form in ["exact", "schedule", "coarse", "hard", "hard schedule", "claim", "unfolding"] {
             let counts = self.of_form(form);
             let sum: u64 = counts.iter().map(|count| count.1).sum();
             let named = counts.iter().map(|&(number, count)| match number {
                 0 => format!("accepted {}", count),
                 _ => format!("refusal {} {}", number, count),
             });
-            println!("{:<10}{:>9} compared: {}", form, sum, named.collect::<Vec<_>>().join(", "));
+            println!("{:<14}{:>9} compared: {}", form, sum, named.collect::<Vec<_>>().join(", "));
         }
         println!(
             "{} event graphs, {} of them accepted; {} process graphs; {} executions tried",
@@ -89,11 +91,12 @@ struct Known {
     depths: Vec<usize>,
     exact: Option<Vec<Vec<i64>>>,
     rounded: Option<Vec<Vec<i64>>>,
+    hard: Option<Option<Vec<Vec<i64>>>>,
 }
 
 impl Known {
     fn new(given: Given) -> Known {
-        Known { given, rules: Vec::new(), depths: Vec::new(), exact: None, rounded: None }
+        Known { given, rules: Vec::new(), depths: Vec::new(), exact: None, rounded: None, hard: None }
     }
 
     fn lists(&self) -> Rules<'_> {
@@ -126,6 +129,26 @@ impl Known {
             self.rounded = Some(greatest(self.given.events, &rounded));
         }
         self.rounded.as_ref().unwrap()
+    }
+
+    /// Tries all delays for times that meet every rule, once; none where there are no such times.
+    fn hard(&mut self, tally: &mut Tally) -> Option<&[Vec<i64>]> {
+        self.exact(tally);
+        if self.hard.is_none() {
+            self.hard = Some(hard_greatest(self.given.events, &self.rules));
+        }
+        self.hard.as_ref().unwrap().as_deref()
+    }
+
+    /// The answer that is due under hard deadlines where the analysis refuses nothing, and the row of s.
+    fn hard_due(&mut self, s: usize, t: usize, tally: &mut Tally) -> (HardAnswer, Vec<i64>) {
+        match self.hard(tally) {
+            None => (HardAnswer::refused(10, 0), Vec::new()),
+            Some(greatest) => {
+                let (least, most, row) = (-greatest[t][s], greatest[s][t], greatest[s].to_vec());
+                (HardAnswer::found(least, most, self.depths[s], self.depths[t]), row)
+            }
+        }
     }
 
     fn describe(&self, s: usize, t: usize) -> String {
@@ -207,6 +230,49 @@ fn compare_schedule(known: &mut Known, s: usize, t: usize, lengths: (usize, usiz
     tally.count("schedule", due.refusal, Some(difference));
 }
 
+fn compare_hard(known: &mut Known, s: usize, t: usize, tally: &mut Tally) {
+    let due = match refusal(&known.given, Form::Exact, s, t) {
+        Some((number, place)) => HardAnswer::refused(number, place),
+        None => known.hard_due(s, t, tally).0,
+    };
+    let answer = library::hard(known.given.events, known.lists(), s, t);
+    let difference = || format!("{}\n    due {:?}\n    got {:?}", known.describe(s, t), due, answer);
+    tally.count("hard", due.refusal, if answer == due { None } else { Some(difference()) });
+}
+
+fn compare_hard_schedule(known: &mut Known, s: usize, t: usize, lengths: (usize, usize), tally: &mut Tally) {
+    let refused = refusal(&known.given, Form::Schedule(lengths.0, lengths.1), s, t);
+    let (mut times, mut delays) = (lent_list(lengths.0 + BEHIND), lent_list(lengths.1 + BEHIND));
+    let lent = (&mut times[..lengths.0], &mut delays[..lengths.1]);
+    let answer = library::hard_schedule(known.given.events, known.lists(), s, t, lent.0, lent.1);
+    let (due, row) = match refused {
+        Some((number, place)) => (HardAnswer::refused(number, place), Vec::new()),
+        None => known.hard_due(s, t, tally),
+    };
+    let fault = if due.refusal == 0 {
+        let fault = hard_schedule_fault(&known.rules, s, &row, &times, &delays);
+        fault.or_else(|| kept_fault(&times, &delays, row.len(), known.rules.len()))
+    } else {
+        kept_fault(&times, &delays, 0, 0)
+    };
+    let text = match fault {
+        Some(fault) => fault,
+        None if answer != due => "the answer".to_string(),
+        None => return tally.count("hard schedule", due.refusal, None),
+    };
+    let difference = format!(
+        "{}, lent {:?}: {}\n    due {:?}\n    got {:?}, times {:?}, delays {:?}",
+        known.describe(s, t),
+        lengths,
+        text,
+        due,
+        answer,
+        &times[..times.len().min(20)],
+        &delays[..delays.len().min(20)]
+    );
+    tally.count("hard schedule", due.refusal, Some(difference));
+}
+
 /// What is wrong with the places from `n` and `r` on, which keep what they held, if anything.
 fn kept_fault(times: &[i64], delays: &[i64], n: usize, r: usize) -> Option<String> {
     let kept = times[n..] == lent_list(times.len())[n..] && delays[r..] == lent_list(delays.len())[r..];
@@ -215,6 +281,50 @@ fn kept_fault(times: &[i64], delays: &[i64], n: usize, r: usize) -> Option<Strin
     } else {
         Some("a place that keeps what it held was written to".to_string())
     }
+}
+
+/// A claim about s and t: the schedule that the library writes, or zeros, with some places changed.
+fn draw_claim(known: &Known, s: usize, t: usize, random: &mut Random) -> Claim {
+    let (n, r) = (known.given.events, known.given.sources.len());
+    let right = n <= 16 && !random.once_in(6);
+    let (times, delays) = if right { (n, r) } else { (draw_length(random, n.min(16)), draw_length(random, r)) };
+    let mut claim = Claim { s, t, gap: 0, times: vec![0; times], delays: vec![0; delays] };
+    let answer = library::schedule(n, known.lists(), s, t, &mut claim.times, &mut claim.delays);
+    claim.gap = answer.separation;
+    for _ in 0..random.below(3) {
+        let list = if random.once_in(2) { &mut claim.times } else { &mut claim.delays };
+        if !list.is_empty() {
+            let at = random.below(list.len());
+            list[at] = if random.once_in(5) {
+                random.pick(&[i64::MIN, i64::MAX])
+            } else {
+                list[at].saturating_add(random.between(-2, 2))
+            };
+        }
+    }
+    if random.once_in(4) {
+        claim.gap += random.between(-1, 1);
+    }
+    claim
+}
+
+fn compare_claim(known: &mut Known, s: usize, t: usize, random: &mut Random, tally: &mut Tally) {
+    let claim = draw_claim(known, s, t, random);
+    let due = match claim_refusal(&known.given, s, t, claim.times.len(), claim.delays.len()) {
+        Some((number, place)) => Judged::refused(number, place),
+        None => {
+            let maximum = known.exact(tally)[s][t];
+            match verdict(&known.rules, s, t, claim.gap, maximum, &claim.times, &claim.delays) {
+                Verdict::Maximum => Judged::said(claims::MAXIMUM),
+                Verdict::Below => Judged::said(claims::BELOW),
+                Verdict::Broken(event) => Judged::broken(event),
+                Verdict::Differs => Judged::said(claims::DIFFERS),
+            }
+        }
+    };
+    let judged = claims::judge(known.given.events, known.lists(), &claim);
+    let difference = || format!("{}, {:?}\n    due {:?}\n    got {:?}", known.describe(s, t), claim, due, judged);
+    tally.count("claim", due.refusal, if judged == due { None } else { Some(difference()) });
 }
 
 /// Asks several questions of one graph.
@@ -232,6 +342,19 @@ fn compare_graph(drawn: Drawn, random: &mut Random, tally: &mut Tally) {
         let (s, t) = (draw_event(random, events), draw_event(random, events));
         let lengths = (draw_length(random, events), draw_length(random, rules));
         compare_schedule(&mut known, s, t, lengths, tally);
+    }
+    for _ in 0..3 {
+        let (s, t) = (draw_event(random, events), draw_event(random, events));
+        compare_hard(&mut known, s, t, tally);
+    }
+    for _ in 0..2 {
+        let (s, t) = (draw_event(random, events), draw_event(random, events));
+        let lengths = (draw_length(random, events), draw_length(random, rules));
+        compare_hard_schedule(&mut known, s, t, lengths, tally);
+    }
+    for _ in 0..4 {
+        let (s, t) = (draw_event(random, events), draw_event(random, events));
+        compare_claim(&mut known, s, t, random, tally);
     }
     let own = if rounds_small(&known.given, own) { own } else { 1 };
     for _ in 0..3 {
@@ -278,6 +401,8 @@ fn templates_of(process: &GivenProcess) -> Templates<'_> {
     Templates {
         rules: Rules { sources: &given.sources, targets: &given.targets, leasts: &given.leasts, mosts: &given.mosts },
         marks: &process.marks,
+        start_leasts: &process.start_leasts,
+        start_mosts: &process.start_mosts,
     }
 }
 

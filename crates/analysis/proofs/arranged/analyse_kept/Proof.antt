@@ -3,7 +3,6 @@ use mathlib.Core.Path.{_≡_, refl}
 use native.Mathlib.Omega.{arith}
 use denote.Ref.{now}
 use borrow.Author.Needs.{needs}
-use borrow.Author.Tests.{not-true, not-false}
 use Rattle.analysis.proofs.Arranging.{sources-below, targets-below, path-5, path-refused}
 use Rattle.analysis.proofs.arranged.analyse_kept.Statement.{statement}
 use Rattle.analysis.proofs.arranged.analyse_kept.Tie as tie
@@ -37,8 +36,8 @@ refused-requires c κs = search needs
 returns : tie.Need-returns
 returns c =
     let begin = c .before .before .before .before .before .before .before .before .before .before .before .before .before .before .before in
-    path-refused 5 0 (omega arith) (c .refused .ensures)
-    (path-5 (c .before .before .before .before .before .before .before .arrange .ensures .1 (not-true _ (c .before .if1 .taken)) (now (begin .args .leasts)) (now (begin .args .mosts))))
+    path-refused 5 _ (omega arith) (c .refused .ensures)
+    (path-5 (c .before .before .before .before .before .before .before .arrange .ensures .1 (c .before .if1 .taken) (now (begin .args .leasts)) (now (begin .args .mosts))))
 
 slice-aggregate-analyse-arranged : tie.Need-slice-aggregate-analyse-arranged
 slice-aggregate-analyse-arranged c = search needs
@@ -58,7 +57,7 @@ slice-aggregate-analyse-arranged-5 c = search needs
 analyse-arranged-requires : tie.Need-analyse-arranged-requires
 analyse-arranged-requires c κs =
     let begin = c .before .before .before .before .before .before .before .before .before .before .before .before .before .before .before .before .before .before .before .before in
-    (begin .pre .0, (c .before .before .before .before .before .before .before .before .before .before .before .before .arrange .ensures .0 (not-false _ (c .before .before .before .before .before .before .if1 .left)), begin .pre .1))
+    (begin .pre .0, (c .before .before .before .before .before .before .before .before .before .before .before .before .arrange .ensures .0 (c .before .before .before .before .before .before .if1 .left), begin .pre .1))
 
 same-length : tie.Need-same-length
 same-length c = search needs

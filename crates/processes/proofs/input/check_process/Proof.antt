@@ -1,51 +1,48 @@
 -- `check_process` meets its contract. Each return gives the first refusal that applies: the checks passed before shut out the earlier ones.
 -- Assumes nothing.
 use mathlib.Core.Path.{_≡_, refl, sym, _∙_}
-use mathlib.Core.Logic.{inl, inr}
 use Prim.Native.Nat.{ℕ, _*_, _<_, _≤_}
 use native.Mathlib.Omega.{arith}
 use denote.Ref.{now}
 use borrow.Author.Needs.{needs}
-use borrow.Author.Tests.{not-true, not-false}
-use Rattle.refusals.specs.Faults.{EndsKnown, InsideDelays}
+use Rattle.refusals.specs.Faults.{EndsKnown}
 use Rattle.verdicts.proofs.Searches.{all-good, as-long}
-use Rattle.processes.specs.Process.{ProcessGraph, processOf, templates, least, most}
-use Rattle.processes.specs.Parts.Checks.{ProcessCountsKept, MarkKept}
-use Rattle.processes.proofs.Verdicts.{lowest-unknown, lowest-outside, lowest-broken, process-1, process-2, process-3, process-7, refusal-checked, kept-checked}
+use Rattle.processes.specs.Process.{ProcessGraph, processOf, templates}
+use Rattle.processes.specs.Parts.Checks.{ProcessCountsKept, MarkKept, TemplateKept}
+use Rattle.processes.proofs.Verdicts.{lowest-unknown, lowest-outside, lowest-broken, process-counts, process-23, process-2, process-3, process-7, refusal-checked, kept-checked}
+use Rattle.processes.proofs.Refusals.{counts-from}
 use Rattle.processes.proofs.input.check_process.Statement.{statement}
 use Rattle.processes.proofs.input.check_process.Tie as tie
 
 -- ---- what has been shown on the way
 
 abbrev graph : tie.Start → ProcessGraph
-graph a = processOf (a .args .p) (now (a .args .sources)) (now (a .args .targets)) (now (a .args .leasts)) (now (a .args .mosts)) (now (a .args .marks))
+graph a = processOf (a .args .p) (now (a .args .sources)) (now (a .args .targets)) (now (a .args .leasts)) (now (a .args .mosts)) (now (a .args .marks)) (now (a .args .start-leasts)) (now (a .args .start-mosts))
 
 counts : (c : tie.Else1) → ProcessCountsKept (graph (c .before .before .before .before .before)) (c .before .before .before .before .before .args .copies)
-counts c = c .before .counts-kept .ensures .kept (not-false _ (c .if1 .left))
+counts c = counts-from (c .if1 .left) (c .before .check-counts .ensures)
 
 known : (c : tie.Else3) (j : ℕ) → j < templates (graph (c .before .before .before .before .before .before .before .before)) → EndsKnown (graph (c .before .before .before .before .before .before .before .before) .events) (graph (c .before .before .before .before .before .before .before .before) .sources) (graph (c .before .before .before .before .before .before .before .before) .targets) j
 known c = all-good (as-long (counts (c .before .before .before) .targets-match) (c .before .unknown-event .ensures)) (c .if3 .left)
 
-inside : (c : tie.Else4) (j : ℕ) → j < templates (graph (c .before .before .before .before .before .before .before .before .before .before)) → InsideDelays (least (graph (c .before .before .before .before .before .before .before .before .before .before)) j) (most (graph (c .before .before .before .before .before .before .before .before .before .before)) j)
-inside c j l =
-    let sizes = counts (c .before .before .before .before .before) in
-    all-good (as-long (sizes .mosts-match ∙ sym (sizes .leasts-match)) (c .before .outside-delay .ensures)) (c .if4 .left) j (omega (arith, sizes .leasts-match))
+inside : (c : tie.Else4) (j : ℕ) → j < templates (graph (c .before .before .before .before .before .before .before .before .before .before)) → TemplateKept (graph (c .before .before .before .before .before .before .before .before .before .before)) j
+inside c j l = all-good (c .before .outside-interval .ensures) (c .if4 .left) j (omega (arith, counts (c .before .before .before .before .before) .leasts-match))
 
 marked : (c : tie.Else5) (j : ℕ) → j < templates (graph (c .before .before .before .before .before .before .before .before .before .before .before .before)) → MarkKept (graph (c .before .before .before .before .before .before .before .before .before .before .before .before) .marks) j
 marked c j l = all-good (c .before .broken-mark .ensures) (c .if5 .left) j (omega (arith, counts (c .before .before .before .before .before .before .before) .marks-match))
 
 -- ---- the needs
 
-counts-kept-requires : tie.Need-counts-kept-requires
-counts-kept-requires c κs = search needs
+check-counts-requires : tie.Need-check-counts-requires
+check-counts-requires c κs = search needs
 
 refused-requires : tie.Need-refused-requires
 refused-requires c κs = search needs
 
 returns : tie.Need-returns
 returns c =
-    refusal-checked 1 0 (omega arith) (c .refused .ensures)
-    (process-1 (inl (c .before .before .counts-kept .ensures .outside (not-true _ (c .before .if1 .taken)))))
+    let some = c .before .if1 .taken in
+    refusal-checked _ 0 (omega arith) (c .refused .ensures) (process-counts _ some (c .before .before .check-counts .ensures))
 
 mul-rules : tie.Need-mul-rules
 mul-rules c = record { fits = omega (arith, counts c .few-rules) }
@@ -54,7 +51,7 @@ refused-requires-2 : tie.Need-refused-requires-2
 refused-requires-2 c κs = search needs
 
 returns-2 : tie.Need-returns-2
-returns-2 c = refusal-checked 1 0 (omega arith) (c .refused2 .ensures) (process-1 (inr (c .before .if2 .taken)))
+returns-2 c = refusal-checked 23 0 (omega arith) (c .refused2 .ensures) (process-23 (counts (c .before .before)) (c .before .if2 .taken))
 
 unknown-event-requires : tie.Need-unknown-event-requires
 unknown-event-requires c κs = search needs
@@ -68,8 +65,14 @@ returns-3 c =
     refusal-checked 2 _ (omega arith) (c .refused3 .ensures)
     (process-2 (counts (passed .before)) (passed .if2 .left) (lowest-unknown (counts (passed .before) .targets-match) (c .before .before .unknown-event .ensures) (c .before .if3 .taken)))
 
-outside-delay-requires : tie.Need-outside-delay-requires
-outside-delay-requires c κs = search needs
+outside-interval-requires : tie.Need-outside-interval-requires
+outside-interval-requires c κs =
+    let sized = counts (c .before .before .before) in (
+      sized .mosts-match ∙ sym (sized .leasts-match),
+      sized .marks-match ∙ sym (sized .leasts-match),
+      sized .start-leasts-match ∙ sym (sized .marks-match),
+      sized .start-mosts-match ∙ sym (sized .marks-match),
+    )
 
 refused-requires-4 : tie.Need-refused-requires-4
 refused-requires-4 c κs = search needs
@@ -80,7 +83,7 @@ returns-4 c =
     let sized = counts (passed .before .before .before) in
     refusal-checked 3 _ (omega arith) (c .refused4 .ensures)
     (process-3 sized (passed .before .before .if2 .left) (known passed)
-    (lowest-outside (sized .mosts-match ∙ sym (sized .leasts-match)) (sized .leasts-match) (c .before .before .outside-delay .ensures) (c .before .if4 .taken)))
+    (lowest-outside (sized .leasts-match) (c .before .before .outside-interval .ensures) (c .before .if4 .taken)))
 
 broken-mark-requires : tie.Need-broken-mark-requires
 broken-mark-requires c κs = search needs
@@ -96,11 +99,11 @@ returns-5 c =
     (process-7 sized (passed .before .before .before .before .if2 .left) (known (passed .before .before)) (inside passed)
     (lowest-broken (sized .marks-match) (c .before .before .broken-mark .ensures) (c .before .if5 .taken)))
 
-mul-t15 : tie.Need-mul-t15
-mul-t15 c = record { fits = omega (arith, counts (c .before .before .before .before .before .before .before) .few-occurrences) }
+mul-t17 : tie.Need-mul-t17
+mul-t17 c = record { fits = omega (arith, counts (c .before .before .before .before .before .before .before) .few-occurrences) }
 
-add-t16 : tie.Need-add-t16
-add-t16 c = record { fits = omega (arith, counts (c .before .before .before .before .before .before .before) .few-occurrences) }
+add-t18 : tie.Need-add-t18
+add-t18 c = record { fits = omega (arith, counts (c .before .before .before .before .before .before .before) .few-occurrences) }
 
 returns-6 : tie.Need-returns-6
 returns-6 c =
@@ -111,7 +114,7 @@ pub check-process-spec : {M : Type 1} → statement M
 check-process-spec =
     tie.close
     (tie.spec
-    counts-kept-requires
+    check-counts-requires
     refused-requires
     returns
     mul-rules
@@ -120,12 +123,12 @@ check-process-spec =
     unknown-event-requires
     refused-requires-3
     returns-3
-    outside-delay-requires
+    outside-interval-requires
     refused-requires-4
     returns-4
     broken-mark-requires
     refused-requires-5
     returns-5
-    mul-t15
-    add-t16
+    mul-t17
+    add-t18
     returns-6)

@@ -10,9 +10,11 @@ use Rattle.processes.specs.Parts.Writing.{InstanceDelay}
 use Rattle.processes.proofs.rules.write_rule.Statement.{statement}
 use Rattle.processes.proofs.rules.write_rule.Tie as tie
 
--- the delay that is handed over and the one that is written are read back from their bits
-held : (k m : ℕ) (d x : ℤ) → SFits w64 d → SFits w64 x → InstanceDelay k m (toZ w64 (ofZ w64 d)) x → InstanceDelay k m d (toZ w64 (ofZ w64 x))
-held k m d x e f h = rw (toZ-ofZ w64 x f) (rw (toZ-ofZ w64 d e) at h)
+-- the delays that are handed over and the one that is written are read back from their bits
+held : (k m : ℕ) (d e x : ℤ) → SFits w64 d → SFits w64 e → SFits w64 x →
+    InstanceDelay k m (toZ w64 (ofZ w64 d)) (toZ w64 (ofZ w64 e)) x →
+    InstanceDelay k m d e (toZ w64 (ofZ w64 x))
+held k m d e x fd fe fx h = rw (toZ-ofZ w64 x fx) (rw (toZ-ofZ w64 d fd, toZ-ofZ w64 e fe) at h)
 
 mul-mark : tie.Need-mul-mark
 mul-mark c = search needs
@@ -56,6 +58,12 @@ mul-delay-at c = search needs
 shared-slice-copy-out-delay-at : tie.Need-shared-slice-copy-out-delay-at
 shared-slice-copy-out-delay-at c = search needs
 
+mul-delay-at-2 : tie.Need-mul-delay-at-2
+mul-delay-at-2 c = search needs
+
+shared-slice-copy-out-delay-at-2 : tie.Need-shared-slice-copy-out-delay-at-2
+shared-slice-copy-out-delay-at-2 c = search needs
+
 delay-at-requires : tie.Need-delay-at-requires
 delay-at-requires c κs = search needs
 
@@ -65,17 +73,23 @@ mul-out-mosts c = search needs
 slice-set-from-out-mosts : tie.Need-slice-set-from-out-mosts
 slice-set-from-out-mosts c = search needs
 
-mul-delay-at-2 : tie.Need-mul-delay-at-2
-mul-delay-at-2 c = search needs
+mul-delay-at-3 : tie.Need-mul-delay-at-3
+mul-delay-at-3 c = search needs
 
-shared-slice-copy-out-delay-at-2 : tie.Need-shared-slice-copy-out-delay-at-2
-shared-slice-copy-out-delay-at-2 c = search needs
+shared-slice-copy-out-delay-at-3 : tie.Need-shared-slice-copy-out-delay-at-3
+shared-slice-copy-out-delay-at-3 c = search needs
+
+mul-delay-at-4 : tie.Need-mul-delay-at-4
+mul-delay-at-4 c = search needs
+
+shared-slice-copy-out-delay-at-4 : tie.Need-shared-slice-copy-out-delay-at-4
+shared-slice-copy-out-delay-at-4 c = search needs
 
 delay-at-requires-2 : tie.Need-delay-at-requires-2
 delay-at-requires-2 c κs = search needs
 
-mul-t21 : tie.Need-mul-t21
-mul-t21 c = search needs
+mul-t23 : tie.Need-mul-t23
+mul-t23 c = search needs
 
 slice-set-from-out-mosts-2 : tie.Need-slice-set-from-out-mosts-2
 slice-set-from-out-mosts-2 c = search needs
@@ -103,10 +117,16 @@ returns c =
       targets-set = refl;
       leasts-set = refl;
       mosts-set = refl;
-      source-at = c .before .before .before .before .before .source-at .ensures;
-      target-at = c .before .before .before .before .occurrence .ensures;
-      least-at = held _ _ _ _ (sfits-of (c .before .before .before .delay-at-arg .given)) (record { sfits = c .before .before .delay-at .ok }) (c .before .before .delay-at .ensures);
-      most-at = held _ _ _ _ (sfits-of (c .before .delay-at-arg2 .given)) (record { sfits = c .delay-at2 .ok }) (c .delay-at2 .ensures);
+      source-at = c .before .before .before .before .before .before .before .source-at .ensures;
+      target-at = c .before .before .before .before .before .before .occurrence .ensures;
+      least-at =
+          held _ _ _ _ _ (sfits-of (c .before .before .before .before .before .delay-at-arg .given)) (sfits-of (c .before .before .before .before .delay-at-arg2 .given))
+          (record { sfits = c .before .before .before .delay-at .ok })
+          (c .before .before .before .delay-at .ensures);
+      most-at =
+          held _ _ _ _ _ (sfits-of (c .before .before .delay-at-arg3 .given)) (sfits-of (c .before .delay-at-arg4 .given))
+          (record { sfits = c .delay-at2 .ok })
+          (c .delay-at2 .ensures);
     }
 
 pub write-rule-spec : {M : Type 1} → statement M
@@ -127,13 +147,17 @@ write-rule-spec =
     slice-write-out-targets
     mul-delay-at
     shared-slice-copy-out-delay-at
+    mul-delay-at-2
+    shared-slice-copy-out-delay-at-2
     delay-at-requires
     mul-out-mosts
     slice-set-from-out-mosts
-    mul-delay-at-2
-    shared-slice-copy-out-delay-at-2
+    mul-delay-at-3
+    shared-slice-copy-out-delay-at-3
+    mul-delay-at-4
+    shared-slice-copy-out-delay-at-4
     delay-at-requires-2
-    mul-t21
+    mul-t23
     slice-set-from-out-mosts-2
     same-length
     same-length-2

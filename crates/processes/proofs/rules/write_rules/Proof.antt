@@ -10,14 +10,14 @@ use Rattle.processes.proofs.rules.write_rules.Statement.{statement}
 use Rattle.processes.proofs.rules.write_rules.Tie as tie
 
 abbrev Inv-loop : tie.InvT-loop
-Inv-loop p copies sources targets leasts mosts marks out-sources₀ out-targets₀ out-leasts₀ out-mosts₀ templates rules i₀ k₀ j₀ out-sources out-targets out-leasts out-mosts i k j =
-    RulesWriting (processOf p sources targets leasts mosts marks) copies out-sources₀ out-targets₀ out-leasts₀ out-mosts₀ out-sources out-targets out-leasts out-mosts i k j
+Inv-loop p copies sources targets leasts mosts marks start-leasts start-mosts out-sources₀ out-targets₀ out-leasts₀ out-mosts₀ templates rules i₀ k₀ j₀ out-sources out-targets out-leasts out-mosts i k j =
+    RulesWriting (processOf p sources targets leasts mosts marks start-leasts start-mosts) copies out-sources₀ out-targets₀ out-leasts₀ out-mosts₀ out-sources out-targets out-leasts out-mosts i k j
 
 abbrev μ-loop : tie.MeasureT-loop
-μ-loop p copies sources targets leasts mosts marks out-sources₀ out-targets₀ out-leasts₀ out-mosts₀ templates rules i₀ k₀ j₀ out-sources out-targets out-leasts out-mosts i k j = length sources * copies - i
+μ-loop p copies sources targets leasts mosts marks start-leasts start-mosts out-sources₀ out-targets₀ out-leasts₀ out-mosts₀ templates rules i₀ k₀ j₀ out-sources out-targets out-leasts out-mosts i k j = length sources * copies - i
 
 abbrev graph : tie.Start Inv-loop μ-loop → ProcessGraph
-graph a = processOf (a .args .p) (now (a .args .sources)) (now (a .args .targets)) (now (a .args .leasts)) (now (a .args .mosts)) (now (a .args .marks))
+graph a = processOf (a .args .p) (now (a .args .sources)) (now (a .args .targets)) (now (a .args .leasts)) (now (a .args .mosts)) (now (a .args .marks)) (now (a .args .start-leasts)) (now (a .args .start-mosts))
 
 -- where a turn starts
 turn : (c : tie.In-loop Inv-loop μ-loop) → TemplateTurn (graph (c .before .before .before .before .before .before .before)) (c .before .loop .k) (c .before .loop .j) (c .before .loop .i)
@@ -39,7 +39,7 @@ write-rule-requires c κs =
     let w = b .before .loop .inv in
     let start = b .before .before .before .before .before .before .before in
     let counts = start .pre .0 .counts in (
-      (counts .targets-match, counts .leasts-match, counts .mosts-match, counts .marks-match, t .few-templates, t .is-template),
+      (counts .targets-match, counts .leasts-match, counts .mosts-match, counts .marks-match, counts .start-leasts-match, counts .start-mosts-match, t .few-templates, t .is-template),
       (
         (t .source-small, t .target-small),
         (t .place-small, omega (arith, w .sources-length), omega (arith, w .targets-length), omega (arith, w .leasts-length), omega (arith, w .mosts-length)),
