@@ -6,7 +6,7 @@ use std::path::{Path, PathBuf};
 use std::process::Command;
 
 /// How many checks caller.c makes: without claims and the entries on text, of the entries on text, and of claims.
-const CHECKS: usize = 221;
+const CHECKS: usize = 231;
 const TEXT_CHECKS: usize = 17;
 const CLAIM_CHECKS: usize = 24;
 

@@ -28,6 +28,9 @@ graph a = processOf (a .args .p) (a .args .sources .now) (a .args .targets .now)
 some : (c : tie.Else2) → c .before .before .args .p ≡ 0 → ⊥
 some c = c .before .if1 .left
 
+few-events : (c : tie.Else2) → c .before .before .args .p ≤ 1023
+few-events c = omega (arith, c .if2 .left)
+
 lists : (c : tie.Else9) → ListsKept (graph (c .before .before .before .before .before .before .before .before .before))
 lists c =
     record {
@@ -49,46 +52,46 @@ returns-2 : tie.Need-returns-2
 returns-2 c = count-21 (many-events (omega (arith, c .if2 .taken)))
 
 returns-3 : tie.Need-returns-3
-returns-3 c = count-22 (some (c .before)) (c .before .if2 .left) (many-templates (c .if3 .taken))
+returns-3 c = count-22 (some (c .before)) (few-events (c .before)) (many-templates (c .if3 .taken))
 
 returns-4 : tie.Need-returns-4
-returns-4 c = count-22 (some (c .before .before)) (c .before .before .if2 .left) (targets-differ (c .if4 .taken))
+returns-4 c = count-22 (some (c .before .before)) (few-events (c .before .before)) (targets-differ (c .if4 .taken))
 
 returns-5 : tie.Need-returns-5
-returns-5 c = count-22 (some (c .before .before .before)) (c .before .before .before .if2 .left) (leasts-differ (c .if5 .taken))
+returns-5 c = count-22 (some (c .before .before .before)) (few-events (c .before .before .before)) (leasts-differ (c .if5 .taken))
 
 returns-6 : tie.Need-returns-6
-returns-6 c = count-22 (some (c .before .before .before .before)) (c .before .before .before .before .if2 .left) (mosts-differ (c .if6 .taken))
+returns-6 c = count-22 (some (c .before .before .before .before)) (few-events (c .before .before .before .before)) (mosts-differ (c .if6 .taken))
 
 returns-7 : tie.Need-returns-7
-returns-7 c = count-22 (some (c .before .before .before .before .before)) (c .before .before .before .before .before .if2 .left) (marks-differ (c .if7 .taken))
+returns-7 c = count-22 (some (c .before .before .before .before .before)) (few-events (c .before .before .before .before .before)) (marks-differ (c .if7 .taken))
 
 returns-8 : tie.Need-returns-8
-returns-8 c = count-22 (some (c .before .before .before .before .before .before)) (c .before .before .before .before .before .before .if2 .left) (start-leasts-differ (c .if8 .taken))
+returns-8 c = count-22 (some (c .before .before .before .before .before .before)) (few-events (c .before .before .before .before .before .before)) (start-leasts-differ (c .if8 .taken))
 
 returns-9 : tie.Need-returns-9
-returns-9 c = count-22 (some (c .before .before .before .before .before .before .before)) (c .before .before .before .before .before .before .before .if2 .left) (start-mosts-differ (c .if9 .taken))
+returns-9 c = count-22 (some (c .before .before .before .before .before .before .before)) (few-events (c .before .before .before .before .before .before .before)) (start-mosts-differ (c .if9 .taken))
 
 returns-10 : tie.Need-returns-10
-returns-10 c = count-24 (some (c .before .before .before .before .before .before .before .before)) (c .before .before .before .before .before .before .before .before .if2 .left) (lists (c .before)) (no-copies (c .if10 .taken))
+returns-10 c = count-24 (some (c .before .before .before .before .before .before .before .before)) (few-events (c .before .before .before .before .before .before .before .before)) (lists (c .before)) (no-copies (c .if10 .taken))
 
 returns-11 : tie.Need-returns-11
-returns-11 c = count-24 (some (c .before .before .before .before .before .before .before .before .before)) (c .before .before .before .before .before .before .before .before .before .if2 .left) (lists (c .before .before)) (many-occurrences (large-copies _ _ (omega (arith, some (c .before .before .before .before .before .before .before .before .before))) (c .if11 .taken)))
+returns-11 c = count-24 (some (c .before .before .before .before .before .before .before .before .before)) (few-events (c .before .before .before .before .before .before .before .before .before)) (lists (c .before .before)) (many-occurrences (large-copies _ _ (omega (arith, some (c .before .before .before .before .before .before .before .before .before))) (c .if11 .taken)))
 
 mul-if12 : tie.Need-mul-if12
-mul-if12 c = record { fits = omega (arith, small-occurrences _ _ (c .before .before .before .before .before .before .before .before .before .if2 .left) (c .if11 .left)) }
+mul-if12 c = record { fits = omega (arith, small-occurrences _ _ (few-events (c .before .before .before .before .before .before .before .before .before)) (c .if11 .left)) }
 
 add-if12 : tie.Need-add-if12
-add-if12 c = record { fits = omega (arith, small-occurrences _ _ (c .before .before .before .before .before .before .before .before .before .if2 .left) (c .if11 .left)) }
+add-if12 c = record { fits = omega (arith, small-occurrences _ _ (few-events (c .before .before .before .before .before .before .before .before .before)) (c .if11 .left)) }
 
 returns-12 : tie.Need-returns-12
-returns-12 c = count-24 (some (c .before .before .before .before .before .before .before .before .before .before)) (c .before .before .before .before .before .before .before .before .before .before .if2 .left) (lists (c .before .before .before)) (many-occurrences (c .if12 .taken))
+returns-12 c = count-24 (some (c .before .before .before .before .before .before .before .before .before .before)) (few-events (c .before .before .before .before .before .before .before .before .before .before)) (lists (c .before .before .before)) (many-occurrences (c .if12 .taken))
 
 mul-if13 : tie.Need-mul-if13
 mul-if13 c = record { fits = omega (arith, small-rules _ _ (lists (c .before .before .before) .few-templates) (c .before .if11 .left)) }
 
 returns-13 : tie.Need-returns-13
-returns-13 c = count-24 (some (c .before .before .before .before .before .before .before .before .before .before .before)) (c .before .before .before .before .before .before .before .before .before .before .before .if2 .left) (lists (c .before .before .before .before)) (many-rules (c .if13 .taken))
+returns-13 c = count-24 (some (c .before .before .before .before .before .before .before .before .before .before .before)) (few-events (c .before .before .before .before .before .before .before .before .before .before .before)) (lists (c .before .before .before .before)) (many-rules (c .if13 .taken))
 
 returns-14 : tie.Need-returns-14
 returns-14 c = count-0 (omega arith)

@@ -50,7 +50,10 @@ returns c =
     let d = c .before .before .before .interval-outside-arg .given in
     let D = c .before .before .interval-outside-arg2 .given in
     lowest-here _ _ _ (b .loop .j) (b .loop .inv)
-    (record { marked = omega (arith, c .before .before .before .before .if1 .taken); outside = read-pair w64 (BeyondDelays _) _ _ d D (c .before .interval-outside .ensures .outside (c .if2 .taken)) })
+    (record {
+      marked = omega (arith, c .before .before .before .before .if1 .taken);
+      outside = read-pair w64 (BeyondDelays _) _ _ d D (c .before .interval-outside .ensures .outside (c .if2 .taken));
+    })
 
 add-j : tie.Need-add-j Inv-loop μ-loop
 add-j c = omega arith

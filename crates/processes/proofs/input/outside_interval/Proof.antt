@@ -19,7 +19,9 @@ returns : tie.Need-returns
 returns c =
     let l = c .lesser .ensures in
     let lengths = c .before .before .before .before .pre in
-    lesser-search {b = c .before .outside-start .result} (lengths .1) (l .0) (omega (arith, l .1)) (l .2) (as-long (lengths .0) (c .before .before .outside-delay .ensures)) (c .before .outside-start .ensures)
+    lesser-search {b = c .before .outside-start .result} (lengths .1) (l .0) (omega (arith, l .1)) (l .2)
+    (as-long (lengths .0) (c .before .before .outside-delay .ensures))
+    (c .before .outside-start .ensures)
 
 pub outside-interval-spec : {M : Type 1} → statement M
 outside-interval-spec = tie.close (tie.spec outside-delay-requires outside-start-requires lesser-requires returns)
