@@ -1,45 +1,52 @@
 -- What the parts of the analysis hand on, put together.
---     ends-wider          keys below n are below any larger number
---     sized-ends          the sources and the targets of a graph whose events are known are below n
---     sized-up            a graph whose delays lie within 1,000,000 may be analysed
---     arranged-acyclic    a graph whose events are in order has no cycle
---     lowest-on           where there is a cycle, the search finds the lowest event on one
+--     zeros              a new list of zeros has zeros
+--     rules-kept         the limits that the rules of a graph keep whose events are known
+--     sized-up           a graph whose delays lie within 1,000,000 may be analysed
+--     sized-right        a graph whose counts are kept and whose rules are right, and back: right-sized
+--     lowest-not-reached, all-reached    what the search for an unreached event tells of the graph, by whether it stopped before the end
+--     ends-wider         keys below n are below any larger number
+--     lowest-on          where there is a cycle, the search finds the lowest event on one
 --     path-5, path-6, path-0    refusals 5 and 6, and that neither applies
---     path-refused        refusal 5 or 6 is what the passes answer
---     path-computed       and so is what they computed
+--     path-refused       refusal 5 or 6 is what the passes answer
+--     path-computed      and so is what they computed
 -- Assumes nothing.
-use mathlib.Core.Path.{_≡_, refl, sym, subst, subst₂}
+use mathlib.Core.Path.{_≡_, refl, sym, subst₂}
 use mathlib.Core.List.{List, []}
 use Prim.Native.Nat.{ℕ, _<_, _≤_}
 use native.Mathlib.Decide.{decLt}
 use native.Mathlib.Omega.{arith}
 use lib.IntN.{ℤ}
-use lib.ListN.{length, getD}
+use lib.ListN.{replicate, length-replicate, getD-replicate}
 use Rattle.integers.proofs.Word.{within-wider}
-use Rattle.graphs.specs.Graph.{Graph, graphOf}
+use Rattle.graphs.specs.Graph.{Graph, graphOf, rules}
 use Rattle.graphs.specs.Path.{OnCycle, HasCycle, Reachable}
 use Rattle.graphs.specs.Refusal.{Unreached, pathChecks}
 use Rattle.verdicts.specs.Verdict.{given, passed, FirstOf, Lowest, LowestOr}
 use Rattle.verdicts.proofs.Verdicts.{none-accepted}
 use Rattle.verdicts.proofs.Searches.{lowest-bad, all-good}
 use Rattle.graphs.proofs.Refusals.{cycle-misses, path-none}
-use Rattle.graphs.specs.Limits.{Sized}
-use Rattle.graphs.proofs.Paths.{ranked-acyclic}
-use Rattle.graphs.proofs.Cycle.{leaves-below}
+use Rattle.graphs.specs.Limits.{CountsKept, Sized}
 use Rattle.analysis.specs.declared.Analysis.{Analysis}
-use Rattle.analysis.specs.Parts.Passes.{EndsBelow}
+use Rattle.analysis.specs.Parts.Rules.{RuleRight, EndsBelow, RulesKept, Zeros}
+use Rattle.graphs.proofs.Cycle.{leaves-below}
 use Rattle.analysis.specs.Parts.Cycles.{LiesOn, LiesOff}
-use Rattle.analysis.specs.Parts.Arranged.{Arranged, Computed, PathsAnalysed}
+use Rattle.analysis.specs.Parts.Arranged.{Computed, PathsAnalysed}
+
+pub zeros : (k : ℕ) {n : ℕ} → n ≤ k → Zeros n (replicate k 0)
+zeros k l = record { room = omega (arith, length-replicate {A = ℕ} k 0); zero = λ v h. getD-replicate {A = ℕ} k v 0 0 (omega (arith, length-replicate {A = ℕ} k 0)) }
 
 pub ends-wider : {n m : ℕ} {keys : List ℕ} → n ≤ m → EndsBelow n keys → EndsBelow m keys
 ends-wider l e = record { below = λ i h. omega (arith, e .below i h) }
 
-module _ {b n : ℕ} {ss ts : List ℕ} {ds Ds : List ℤ} (sized : Sized b (graphOf n ss ts ds Ds)) where
-  pub sources-below : EndsBelow n ss
-  sources-below = record { below = λ i h. sized .ends i h .source-known }
-
-  pub targets-below : EndsBelow n ts
-  targets-below = record { below = λ i h. sized .ends i (subst (λ (k : ℕ). i < k) (sized .counts .targets-match) h) .target-known }
+pub rules-kept : {b n : ℕ} {ss ts : List ℕ} {ds Ds : List ℤ} → Sized b (graphOf n ss ts ds Ds) → RulesKept n ss ts
+rules-kept sized =
+    record {
+      few-events = sized .counts .few-events;
+      few-rules = sized .counts .few-rules;
+      targets-match = sized .counts .targets-match;
+      sources-below = record { below = λ i h. sized .ends i h .source-known };
+      targets-below = record { below = λ i h. sized .ends i (omega (arith, sized .counts .targets-match)) .target-known };
+    }
 
 pub sized-up : {a b : ℕ} {g : Graph} → a ≤ b → Sized a g → Sized b g
 sized-up {g = g} l s =
@@ -54,8 +61,22 @@ sized-up {g = g} l s =
           };
     }
 
-pub arranged-acyclic : {n : ℕ} {ss ts heads-out nexts-out heads-in nexts-in order : List ℕ} {ds Ds : List ℤ} → Arranged n ss ts heads-out nexts-out heads-in nexts-in order → HasCycle (graphOf n ss ts ds Ds) → ⊥
-arranged-acyclic a = ranked-acyclic (a .rank) (a .ordered .sources-first)
+pub sized-right : {b : ℕ} {g : Graph} → CountsKept g → ((i : ℕ) → i < rules g → RuleRight b g i) → Sized b g
+sized-right counts right =
+    record {
+      counts = counts;
+      ends = λ i l. record { source-known = right i l .source-known; target-known = right i l .target-known };
+      delays = λ i l. record { least-within = right i l .delays .least-within; most-within = right i l .delays .most-within; ordered = right i l .delays .ordered };
+    }
+
+pub right-sized : {b : ℕ} {g : Graph} → Sized b g → (i : ℕ) → i < rules g → RuleRight b g i
+right-sized sized i l =
+    let d = sized .delays i l in
+    record {
+      source-known = sized .ends i l .source-known;
+      target-known = sized .ends i l .target-known;
+      delays = record { least-within = d .least-within; most-within = d .most-within; ordered = d .ordered };
+    }
 
 -- ---- refusals 5 and 6
 
@@ -73,6 +94,12 @@ lowest-on {n} {ss} {ts} {r} below cyclic found =
         absurd (all-good found (omega arith) v (leaves-below (below .below) p some) n [] [] (p, some))
 
 module _ {g : Graph} where
+  pub lowest-not-reached : {r : ℕ} → LowestOr (g .events) (Reachable g) (λ v. Reachable g v → ⊥) r → r < g .events → Lowest (Unreached g) r
+  lowest-not-reached = lowest-bad (Unreached g) (λ v l p u. u .no-path p) (λ v l none. record { is-event = l; no-path = none })
+
+  pub all-reached : {r : ℕ} → LowestOr (g .events) (Reachable g) (λ v. Reachable g v → ⊥) r → g .events ≤ r → (v : ℕ) → v < g .events → Reachable g v
+  all-reached h l v m = all-good h l v m
+
   pub path-5 : {p : ℕ} → Lowest (OnCycle g) p → FirstOf (pathChecks g) 5 p
   path-5 h = given h
 

@@ -121,7 +121,7 @@ pub data Passing (ss : List ℕ) (i : ℕ) (seen : List Bool) (list : List ℕ) 
       Passing ss i seen list end seen′ list′ end′
 
 module _ (ss ts heads nexts : List ℕ) (chained : Chained ts heads nexts) (event : ℕ) (seen₀ : List Bool) (list₀ : List ℕ) (end₀ : ℕ) where
-  pub marking-start : event < 1024 → Listing seen₀ list₀ end₀ → Marking ss ts event seen₀ list₀ end₀ (getD heads event 0) seen₀ list₀ end₀
+  pub marking-start : event < length heads → Listing seen₀ list₀ end₀ → Marking ss ts event seen₀ list₀ end₀ (getD heads event 0) seen₀ list₀ end₀
   marking-start l listing =
       record {
         walk = walk-start ts heads nexts chained event (λ (i : ℕ). getD seen₀ (getD ss i 0) false ≡ true) l;

@@ -1,6 +1,7 @@
 -- The promise of the analysis, put together from what its parts promise, and that it fixes the result: two results allowed for one input are equal.
 --     analysed-refused    a refusal leaves the list as it was
 --     analysed-counts, analysed-short, analysed-input    so does refusal 21 or 22, 23, and one of those that speak of what is handed in
+--     analysed-input-refused   where the question isn't kept, what `check_input` finds is the answer
 --     analysed-paths      where the question is kept, what the passes answer is the answer
 --     analyse-unique      two results of `analyse` are equal, the list included
 -- Assumes nothing.
@@ -13,7 +14,7 @@ use lib.IntN.{ℤ, pos}
 use Rattle.graphs.proofs.Limits.{sound-of}
 use lib.ListN.{length}
 use Rattle.sequences.proofs.Same.{same-places}
-use Rattle.verdicts.specs.Verdict.{given, passed, FirstOf}
+use Rattle.verdicts.specs.Verdict.{given, passed, FirstOf, Accepted}
 use Rattle.verdicts.proofs.Verdicts.{at-zero, then-unique, one-verdict, front-given, then-alike, passed-all}
 use Rattle.graphs.specs.Graph.{Graph}
 use Rattle.graphs.specs.Refusal.{countChecks, questionChecksTo, pathChecks}
@@ -22,11 +23,11 @@ use Rattle.graphs.proofs.Refusals.{events-miss, rules-miss, question-places, pa
 use Rattle.graphs.proofs.Unique.{depth-unique}
 use Rattle.executions.proofs.Unique.{u-unique}
 use Rattle.refusals.specs.Question.{delayLimit}
-use Rattle.refusals.proofs.Question.{QuestionKept, kept-none}
+use Rattle.refusals.proofs.Question.{QuestionKept, kept-none, question-kept}
 use Rattle.refusals.proofs.Counts.{counts-given}
 use Rattle.analysis.specs.declared.Analysis.{Analysis}
 use Rattle.analysis.specs.Promise.{AnalysisVerdict, AnalysisFound, Analysed}
-use Rattle.analysis.specs.Parts.Arranged.{PathsAnalysed}
+use Rattle.analysis.specs.Parts.Arranged.{PathsAnalysed, InputRefused}
 use Rattle.analysis.proofs.Arranging.{Refused}
 
 -- ---- the answer
@@ -55,6 +56,13 @@ module _ {limit : ℕ} {g : Graph} {s t : ℕ} {us : List ℤ} {a : Analysis} wh
       analysed-refused k p some r
       (then-alike (short-alike (λ none. absurd none) room) (FirstOf (pathChecks g)) k p
       (front-given (questionChecksTo (delayLimit limit) g s t ⊥) (FirstOf (pathChecks g)) k p some v))
+
+-- where the question isn't kept, the refusal that `check_input` finds is the answer
+pub analysed-input-refused :
+    {limit : ℕ} {g : Graph} {s t : ℕ} {us : List ℤ} {a : Analysis} → (length us < g .events → ⊥) → (QuestionKept (delayLimit limit) g s t → ⊥) →
+    InputRefused limit g s t a → Analysed limit g s t us us a
+analysed-input-refused {a = a} room never r =
+    analysed-input room (a .refusal) (a .place) (λ e. never (question-kept Accepted e (r .verdict) .0)) (refl, refl, r .no-source-depth, r .no-target-depth) (r .verdict)
 
 pub analysed-paths : {limit : ℕ} {g : Graph} {s t : ℕ} {us₀ us : List ℤ} {a : Analysis} → (length us₀ < g .events → ⊥) → QuestionKept (delayLimit limit) g s t → length us ≡ length us₀ → PathsAnalysed g s t us₀ us a → Analysed limit g s t us₀ us a
 analysed-paths {limit} {g} {s} {t} {us₀} {us} {a} room kept same x =

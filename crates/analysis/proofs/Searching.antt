@@ -20,7 +20,7 @@ use Rattle.graphs.proofs.Paths.{empty-ends}
 use Rattle.graphs.proofs.Cycle.{leaves-below}
 use Rattle.sequences.specs.Counted.{Counted}
 use Rattle.sequences.proofs.Counting.{counted-all}
-use Rattle.analysis.specs.Parts.Passes.{EndsBelow}
+use Rattle.analysis.specs.Parts.Rules.{EndsBelow}
 use Rattle.analysis.specs.Parts.Cycles.{Listing, InSources, Marked, LiesOn, LiesOff}
 
 -- ---- at first

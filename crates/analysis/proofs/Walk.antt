@@ -5,12 +5,10 @@
 --     walk-end            at 0 every rule with key v has been passed
 --     walk-map            what Q implies holds of the passed rules too
 -- Assumes nothing.
-use mathlib.Core.Path.{_≡_, refl, subst, sym}
-use mathlib.Core.Logic.{_⊎_, ⊎-elim}
+use mathlib.Core.Path.{_≡_, refl, subst}
 use mathlib.Core.List.{List}
-use Prim.Native.Nat.{ℕ, zero, suc, _<_, _≤_, zero-le}
-use native.Mathlib.Nat.{eq-or-lt-of-le}
-use native.Mathlib.Decide.{decLe, decLt}
+use Prim.Native.Nat.{ℕ, suc, _<_, _≤_, zero-le}
+use native.Mathlib.Decide.{decLt}
 use native.Mathlib.Omega.{arith}
 use lib.ListN.{length, getD}
 use Rattle.analysis.specs.Parts.Chains.{Last, Chained}
@@ -21,7 +19,7 @@ pub record Walk (keys : List ℕ) (v e : ℕ) (Q : ℕ → Type 0) : Type 0 wher
   pub seen : (j : ℕ) → e ≤ j → j < length keys → getD keys j 0 ≡ v → Q j
 
 module _ (keys heads nexts : List ℕ) (chained : Chained keys heads nexts) (v : ℕ) (Q : ℕ → Type 0) where
-  pub walk-start : v < 1024 → Walk keys v (getD heads v 0) Q
+  pub walk-start : v < length heads → Walk keys v (getD heads v 0) Q
   walk-start l =
       record {
         within = chained .heads-last v l .within;

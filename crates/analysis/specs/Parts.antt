@@ -1,10 +1,10 @@
 -- What the contracts of the functions within cite. A reader of the promise needs none of it.
 pub mod Chains
 pub mod Order
-pub mod Passes
+pub mod Rules
 pub mod Placing
-pub mod Deepest
-pub mod Targets
-pub mod Arrival
+pub mod Reach
+pub mod Paths
+pub mod Latest
 pub mod Cycles
 pub mod Arranged

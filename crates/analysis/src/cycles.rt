@@ -9,7 +9,7 @@ ghost use Prim.Native.Nat.{ℕ, _<_, _≤_};
 ghost use lib.ListN.{length};
 ghost use Rattle.verdicts.specs.Verdict.{LowestOr};
 ghost use Rattle.analysis.specs.Parts.Chains.{Chained};
-ghost use Rattle.analysis.specs.Parts.Passes.{EndsBelow};
+ghost use Rattle.analysis.specs.Parts.Rules.{EndsBelow};
 ghost use Rattle.analysis.specs.Parts.Cycles.{Listing, Marked, LiesOn, LiesOff};
 
 // Marks the sources of the rules into `event`, and lists those that were not marked. The answer is how many events are listed.

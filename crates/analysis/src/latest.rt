@@ -1,127 +1,126 @@
-// The pass that finds U: from the root on.
+// The walk that finds U and the depths, from the root on: an event whose turn comes takes the greatest U(source) + D and the greatest depth over the rules into
+// it. `us` holds m before, and U after.
 ghost use mathlib.Core.Path.{_≡_};
-ghost use Prim.Native.Nat.{ℕ, _<_, _≤_};
-ghost use lib.IntN.{pos};
+ghost use mathlib.Core.List.{List};
+ghost use Prim.Native.Nat.{ℕ, _<_};
+ghost use lib.IntN.{ℤ, pos};
 ghost use lib.ListN.{length, getD};
+ghost use Rattle.integers.specs.Within.{Within};
 ghost use Rattle.graphs.specs.Graph.{graphOf};
-ghost use Rattle.graphs.specs.Limits.{EventGraph};
-ghost use Rattle.analysis.specs.Parts.Chains.{Chained};
-ghost use Rattle.analysis.specs.Parts.Order.{Order};
-ghost use Rattle.analysis.specs.Parts.Arrival.{arrivalBy, Addable, Arrivals, GreatestArrival, SourcesWithin, UAt};
-ghost use Rattle.analysis.specs.Parts.Passes.{MFound};
-ghost use Rattle.analysis.specs.Parts.Arranged.{LatestFound};
+ghost use Rattle.analysis.specs.Parts.Latest.{arrivalBy, depthBy, Addable, Deepenable, Greater, Arrivals, GreatestArrival, Settled, LatestReady, LatestFound, DepthsFound};
+use crate::paths::lesser;
 
-// U(source) + D of rule i.
-fn arrival_by(sources: &[usize], mosts: &[i64], u: &[i64], i: usize) -> i64
-    requires { ⌜ Addable (now sources) (now mosts) (now u) i ⌝ }
-    ensures { λ r. ⌜ r ≡ arrivalBy (now (sources .entry)) (now (mosts .entry)) (now (u .entry)) i ⌝ }
-{
-    let w = sources[i];
-    u[w] + mosts[i]
+// The greatest U(source) + D, and the greatest depth of a source, and 1.
+struct Arrival {
+    time: i32,
+    depth: u16,
 }
 
-// The greatest U(source) + D over the rules into v. The walk's first rule is taken as it is.
-fn arrival(
+// The most delay of rule i, in 32 bits.
+fn most_delay(mosts: &[i64], i: usize) -> i32
+    requires { ⌜ (i < length (now mosts)) × Within 1001000 (getD (now mosts) i (pos 0)) ⌝ }
+    ensures { λ r. ⌜ r ≡ getD (now (mosts .entry)) i (pos 0) ⌝ }
+{
+    mosts[i] as i32
+}
+
+// U(source) + D of rule i.
+fn arrival_by(sources: &[usize], mosts: &[i64], us: &[i32], i: usize) -> i32
+    requires { ⌜ Addable (now sources) (now mosts) (now us) i ⌝ }
+    ensures { λ r. ⌜ r ≡ arrivalBy (now (sources .entry)) (now (mosts .entry)) (now (us .entry)) i ⌝ }
+{
+    let w = sources[i];
+    us[w] + most_delay(mosts, i)
+}
+
+// The depth of rule i's source, and 1.
+fn depth_by(sources: &[usize], depth: &[u16], i: usize) -> u16
+    requires { ⌜ Deepenable (now sources) (now depth) i ⌝ }
+    ensures { λ r. ⌜ pos r ≡ depthBy (now (sources .entry)) (now (depth .entry)) i ⌝ }
+{
+    let w = sources[i];
+    depth[w] + 1
+}
+
+// The greater of two numbers.
+fn greater(x: i32, y: i32) -> i32
+    ensures { λ r. ⌜ Greater x y r ⌝ }
+{
+    if y < x { x } else { y }
+}
+
+// The greater of two depths.
+fn deeper(x: u16, y: u16) -> u16
+    ensures { λ r. ⌜ Greater (pos x) (pos y) (pos r) ⌝ }
+{
+    if x < y { y } else { x }
+}
+
+// The greatest of what the rules into `v` bring. The walk's first rule is taken as it is.
+fn pull(
     sources: &[usize],
-    targets: &[usize],
     mosts: &[i64],
     heads: &[u16],
     nexts: &[u16],
-    u: &[i64],
+    us: &[i32],
+    depth: &[u16],
     v: usize,
-) -> i64
-    requires { ⌜ Chained (now targets) (now heads) (now nexts) × (length (now heads) ≡ 1024) × (length (now nexts) ≡ 4096) ⌝ }
-    requires { ⌜ (v < 1024) × (length (now targets) ≤ 4096) × Arrivals (now sources) (now targets) (now mosts) (now u) v ⌝ }
-    ensures { λ r. ⌜ GreatestArrival (now (sources .entry)) (now (targets .entry)) (now (mosts .entry)) (now (u .entry)) v r ⌝ }
+) -> Arrival
+    requires { ⌜ ((n : ℕ) × (ts : List ℕ) × Arrivals n (now sources) ts (now heads) (now nexts) (now mosts) (now us) (now depth) v) ⌝ }
+    ensures { λ r. ⌜ ((n : ℕ) (ts : List ℕ) → Arrivals n (now (sources .entry)) ts (now (heads .entry)) (now (nexts .entry)) (now (mosts .entry)) (now (us .entry)) (now (depth .entry)) v → GreatestArrival n (now (sources .entry)) ts (now (mosts .entry)) (now (us .entry)) (now (depth .entry)) v (r .time) (r .depth)) ⌝ }
 {
     let first = heads[v] as usize - 1;
-    let mut best = arrival_by(sources, mosts, u, first);
+    let mut time = arrival_by(sources, mosts, us, first);
+    let mut deep = depth_by(sources, depth, first);
     let mut e = nexts[first] as usize;
     while e != 0 {
         let i = e - 1;
-        let x = arrival_by(sources, mosts, u, i);
-        if best < x {
-            best = x;
-        }
+        time = greater(time, arrival_by(sources, mosts, us, i));
+        deep = deeper(deep, depth_by(sources, depth, i));
         e = nexts[i] as usize;
     }
-    best
+    Arrival { time, depth: deep }
 }
 
-// U(v), where u holds U of every source of a rule into v.
-fn u_at(
-    n: usize,
+// The turn of event `v`: its U and its depth are written down.
+fn settle(
     sources: &[usize],
-    targets: &[usize],
-    leasts: &[i64],
     mosts: &[i64],
     heads: &[u16],
     nexts: &[u16],
-    s: usize,
-    found: &[bool],
-    m: &[i64],
-    u: &[i64],
     v: usize,
-) -> i64
-    requires { ⌜ EventGraph 1001000 (graphOf n (now sources) (now targets) (now leasts) (now mosts)) × (s < n) ⌝ }
-    requires { ⌜ Chained (now targets) (now heads) (now nexts) × (length (now heads) ≡ 1024) × (length (now nexts) ≡ 4096) ⌝ }
-    requires { ⌜ (length (now found) ≡ 1024) × (length (now m) ≡ 1024) × ((w : ℕ) → w < n → MFound (graphOf n (now sources) (now targets) (now leasts) (now mosts)) s (now found) (now m) w) ⌝ }
-    requires { ⌜ (n ≤ length (now u)) × (v < n) × SourcesWithin (now sources) (now targets) (now u) v ⌝ }
-    ensures { λ r. ⌜ UAt (graphOf n (now (sources .entry)) (now (targets .entry)) (now (leasts .entry)) (now (mosts .entry))) s (λ w. getD (now (u .entry)) w (pos 0)) v r ⌝ }
+    us: &mut [i32],
+    depth: &mut [u16],
+)
+    requires { ⌜ ((n : ℕ) × (ts : List ℕ) × Arrivals n (now sources) ts (now heads) (now nexts) (now mosts) (now us) (now depth) v) ⌝ }
+    requires { ⌜ (v < length (now us)) × (v < length (now depth)) ⌝ }
+    ensures { λ _. ⌜ ((n : ℕ) (ts : List ℕ) → Arrivals n (now (sources .entry)) ts (now (heads .entry)) (now (nexts .entry)) (now (mosts .entry)) (now (us .entry)) (now (depth .entry)) v → Settled n (now (sources .entry)) ts (now (mosts .entry)) v (now (us .entry)) (now (depth .entry)) (now (us .exit)) (now (depth .exit))) ⌝ }
 {
-    if v == 0 {
-        return m[0];
-    }
-    let a = arrival(sources, targets, mosts, heads, nexts, u, v);
-    if found[v] {
-        let x = m[v];
-        if x < a {
-            return x;
-        }
-    }
-    a
+    let here = pull(sources, mosts, heads, nexts, us, depth, v);
+    us[v] = lesser(us[v], here.time);
+    depth[v] = here.depth;
 }
 
-// U from the root on. `heads` and `nexts` chain the rules by target.
+// U and the depth of each of the n events. The root's depth stands there already.
 pub(crate) fn find_u(
     n: usize,
     sources: &[usize],
-    targets: &[usize],
-    leasts: &[i64],
     mosts: &[i64],
     heads: &[u16],
     nexts: &[u16],
-    order: &[usize],
-    s: usize,
-    found: &[bool],
-    m: &[i64],
-    u: &mut [i64],
+    order: &[u16],
+    us: &mut [i32],
+    depth: &mut [u16],
 )
-    requires { ⌜ EventGraph 1001000 (graphOf n (now sources) (now targets) (now leasts) (now mosts)) × (s < n) ⌝ }
-    requires { ⌜ Chained (now targets) (now heads) (now nexts) × (length (now heads) ≡ 1024) × (length (now nexts) ≡ 4096) ⌝ }
-    requires { ⌜ ((rank : ℕ → ℕ) × Order n (now sources) (now targets) (now order) rank) × (length (now order) ≡ 1024) ⌝ }
-    requires { ⌜ (length (now found) ≡ 1024) × (length (now m) ≡ 1024) × ((v : ℕ) → v < n → MFound (graphOf n (now sources) (now targets) (now leasts) (now mosts)) s (now found) (now m) v) ⌝ }
-    requires { ⌜ n ≤ length (now u) ⌝ }
-    ensures { λ _. ⌜ LatestFound (graphOf n (now (sources .entry)) (now (targets .entry)) (now (leasts .entry)) (now (mosts .entry))) s (now (u .entry)) (now (u .exit)) ⌝ }
+    requires { ⌜ ((ts : List ℕ) × (ds : List ℤ) × (s : ℕ) × LatestReady n (now sources) ts ds (now mosts) (now heads) (now nexts) (now order) s (now us) (now depth)) ⌝ }
+    ensures { λ _. ⌜ ((ts : List ℕ) (ds : List ℤ) (s : ℕ) → LatestReady n (now (sources .entry)) ts ds (now (mosts .entry)) (now (heads .entry)) (now (nexts .entry)) (now (order .entry)) s (now (us .entry)) (now (depth .entry)) → LatestFound (graphOf n (now (sources .entry)) ts ds (now (mosts .entry))) s (now (us .entry)) (now (us .exit)) × DepthsFound (graphOf n (now (sources .entry)) ts ds (now (mosts .entry))) (now (depth .exit))) ⌝ }
 {
-    let mut k: usize = 0;
-    while k < n {
-        let v = order[k];
-        let x = u_at(
-            n,
-            sources,
-            targets,
-            leasts,
-            mosts,
-            heads,
-            nexts,
-            s,
-            found,
-            m,
-            u,
-            v,
-        );
-        u[v] = x;
-        k += 1;
+    let mut k = n;
+    while k > 0 {
+        k -= 1;
+        let v = order[k] as usize;
+        if v != 0 {
+            settle(sources, mosts, heads, nexts, v, us, depth);
+        }
     }
 }

@@ -2,19 +2,23 @@
 //     analyse    the refusal with its place, or U, written into a lent list, and both depths
 // No caller is trusted: every list, length and number gets an answer. The promise is in specs/Promise.antt.
 ghost use mathlib.Core.Path.{_≡_};
+ghost use mathlib.Core.Bool.{true, false};
+ghost use Prim.Native.Nat.{_<_};
 ghost use Rattle.graphs.specs.Graph.{graphOf};
 ghost use Rattle.analysis.specs.Promise.{Analysed};
 
 mod arranged;
-mod chains;
 mod cycles;
-mod depths;
 mod latest;
+mod lists;
 mod order;
 mod paths;
-mod unreached;
+mod reach;
+mod rules;
 
-use crate::arranged::analyse_kept;
+use crate::arranged::input_refused;
+use crate::lists::analyse_large;
+use crate::lists::analyse_small;
 
 // What the analysis answers. `refusal` is 0, or the number of document 01's table, with its place.
 pub struct Analysis {
@@ -36,6 +40,20 @@ pub(crate) fn refused(number: usize, place: usize) -> Analysis
     }
 }
 
+// Whether s and t are events.
+fn both_known(n: usize, s: usize, t: usize) -> bool
+    ensures { λ r. ⌜ (r ≡ true → (s < n) × (t < n)) ⌝ }
+    ensures { λ r. ⌜ (r ≡ false → (s < n) × (t < n) → ⊥) ⌝ }
+{
+    if s >= n {
+        return false;
+    }
+    if t >= n {
+        return false;
+    }
+    true
+}
+
 // U against s of each of the n events, into `latest`, and the depths of s and t. Delays may be from −limit to limit. Places beyond the n keep what they
 // held; refused, the whole list does.
 pub fn analyse(
@@ -47,7 +65,7 @@ pub fn analyse(
     limit: usize,
     s: usize,
     t: usize,
-    latest: &mut [i64],
+    latest: &mut [i32],
 ) -> Analysis
     ensures { λ r. ⌜ Analysed limit (graphOf n (now (sources .entry)) (now (targets .entry)) (now (leasts .entry)) (now (mosts .entry))) s t (now (latest .entry)) (now (latest .exit)) r ⌝ }
 {
@@ -58,9 +76,11 @@ pub fn analyse(
     if latest.len() < n {
         return refused(23, 0);
     }
-    let input = refusals::check_input(n, sources, targets, leasts, mosts, limit, s, t);
-    if input.number != 0 {
-        return refused(input.number, input.place);
+    if !both_known(n, s, t) {
+        return input_refused(n, sources, targets, leasts, mosts, limit, s, t);
     }
-    analyse_kept(n, sources, targets, leasts, mosts, s, t, latest)
+    if n <= 64 && sources.len() <= 1024 {
+        return analyse_small(n, sources, targets, leasts, mosts, limit, s, t, latest);
+    }
+    analyse_large(n, sources, targets, leasts, mosts, limit, s, t, latest)
 }

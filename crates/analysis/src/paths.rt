@@ -1,153 +1,99 @@
-// The pass that finds m: back from s.
+// The walk that finds m, from the sinks on: an event whose turn comes has its m, and hands it on along the rules into it. Where there is no path to s one
+// number stands that no sum of delays comes to.
 ghost use mathlib.Core.Path.{_≡_};
-ghost use Prim.Native.Nat.{ℕ, _<_};
-ghost use lib.ListN.{length};
+ghost use mathlib.Core.List.{List};
+ghost use Prim.Native.Nat.{ℕ, _<_, _≤_};
+ghost use lib.IntN.{ℤ, pos};
+ghost use lib.ListN.{length, getD};
+ghost use Rattle.integers.specs.Within.{Within};
+ghost use Rattle.sequences.specs.Filled.{Filled};
 ghost use Rattle.graphs.specs.Graph.{graphOf};
-ghost use Rattle.graphs.specs.Limits.{Sized};
-ghost use Rattle.analysis.specs.Parts.Chains.{Chained};
-ghost use Rattle.analysis.specs.Parts.Order.{Order};
-ghost use Rattle.analysis.specs.Parts.Passes.{MFound};
-ghost use Rattle.analysis.specs.Parts.Targets.{LesserOf, TargetsWithin, LeastTarget, TargetsFound, MOf};
+ghost use Rattle.executions.specs.Steps.{Lesser};
+ghost use Rattle.analysis.specs.Parts.Paths.{absent, MReady, PassReady, PushReady, MPass, MAll};
 
-// A number, where `found` says that there is one.
-struct Least {
-    found: bool,
-    value: i64,
+pub(crate) const ABSENT: i32 = 2100000000;
+
+// The lesser of two numbers.
+pub(crate) fn lesser(x: i32, y: i32) -> i32
+    ensures { λ r. ⌜ Lesser x y r ⌝ }
+{
+    if x < y { x } else { y }
 }
 
-// The lesser of `old`'s number, if there is one, and `x`.
-fn lesser(old: Least, x: i64) -> Least
-    ensures { λ r. ⌜ LesserOf (old .found) (old .value) x (r .found) (r .value) ⌝ }
+// The least delay of rule i, in 32 bits.
+fn least_delay(leasts: &[i64], i: usize) -> i32
+    requires { ⌜ (i < length (now leasts)) × Within 1001000 (getD (now leasts) i (pos 0)) ⌝ }
+    ensures { λ r. ⌜ r ≡ getD (now (leasts .entry)) i (pos 0) ⌝ }
 {
-    if old.found {
-        if old.value <= x {
-            return old;
-        }
-    }
-    Least {
-        found: true,
-        value: x,
+    leasts[i] as i32
+}
+
+// No event has an m yet.
+fn clear(n: usize, m: &mut [i32])
+    requires { ⌜ n ≤ length (now m) ⌝ }
+    ensures { λ _. ⌜ Filled (pos 0) n (λ v x. x ≡ absent) (now (m .entry)) (now (m .exit)) ⌝ }
+{
+    let mut v = 0;
+    while v < n {
+        m[v] = ABSENT;
+        v += 1;
     }
 }
 
-// The least m[target] − least delay over the rules out of `v` whose target is found.
-fn least_target(
-    n: usize,
-    sources: &[usize],
-    targets: &[usize],
-    leasts: &[i64],
-    mosts: &[i64],
-    heads: &[u16],
-    nexts: &[u16],
-    v: usize,
-    found: &[bool],
-    m: &[i64],
-) -> Least
-    requires { ⌜ Sized 1001000 (graphOf n (now sources) (now targets) (now leasts) (now mosts)) × (v < n) ⌝ }
-    requires { ⌜ Chained (now sources) (now heads) (now nexts) × (length (now heads) ≡ 1024) × (length (now nexts) ≡ 4096) ⌝ }
-    requires { ⌜ (length (now found) ≡ 1024) × (length (now m) ≡ 1024) ⌝ }
-    requires { ⌜ TargetsWithin (graphOf n (now sources) (now targets) (now leasts) (now mosts)) (now found) (now m) v ⌝ }
-    ensures { λ r. ⌜ LeastTarget (graphOf n (now (sources .entry)) (now (targets .entry)) (now (leasts .entry)) (now (mosts .entry))) (now (found .entry)) (now (m .entry)) v (r .found) (r .value) ⌝ }
+// Hands m(v) on along the rules into `v`: the source of each has a path of that m less the least delay.
+fn push(sources: &[usize], leasts: &[i64], heads: &[u16], nexts: &[u16], v: usize, m: &mut [i32])
+    requires { ⌜ ((n : ℕ) × (ts : List ℕ) × (Ds : List ℤ) × (order : List ℕ) × (s : ℕ) × (k : ℕ) × (m₀ : List ℤ) × PushReady n (now sources) ts (now leasts) Ds (now heads) (now nexts) order s k v m₀ (now m)) ⌝ }
+    ensures { λ _. ⌜ ((n : ℕ) (ts : List ℕ) (Ds : List ℤ) (order : List ℕ) (s k : ℕ) (m₀ : List ℤ) (r : PushReady n (now (sources .entry)) ts (now (leasts .entry)) Ds (now (heads .entry)) (now (nexts .entry)) order s k v m₀ (now (m .entry))) → MPass (graphOf n (now (sources .entry)) ts (now (leasts .entry)) Ds) s (r .ready .arranged .rank) k 0 m₀ (now (m .exit))) ⌝ }
 {
-    let mut best = Least {
-        found: false,
-        value: 0,
-    };
+    let here = m[v];
     let mut e = heads[v] as usize;
     while e != 0 {
         let i = e - 1;
-        let w = targets[i];
-        if found[w] {
-            let x = m[w] - leasts[i];
-            best = lesser(best, x);
-        }
+        let u = sources[i];
+        let x = here - least_delay(leasts, i);
+        m[u] = lesser(m[u], x);
         e = nexts[i] as usize;
     }
-    best
 }
 
-// m(v), where m is known of the targets of the rules out of `v`.
-fn m_of(
+// Lets each event hand on its m when its turn comes.
+fn push_all(
     n: usize,
     sources: &[usize],
-    targets: &[usize],
     leasts: &[i64],
-    mosts: &[i64],
     heads: &[u16],
     nexts: &[u16],
-    order: &[usize],
-    s: usize,
-    v: usize,
-    found: &[bool],
-    m: &[i64],
-) -> Least
-    requires { ⌜ Sized 1001000 (graphOf n (now sources) (now targets) (now leasts) (now mosts)) × (s < n) × (v < n) ⌝ }
-    requires { ⌜ Chained (now sources) (now heads) (now nexts) × (length (now heads) ≡ 1024) × (length (now nexts) ≡ 4096) ⌝ }
-    requires { ⌜ ((rank : ℕ → ℕ) × Order n (now sources) (now targets) (now order) rank) ⌝ }
-    requires { ⌜ (length (now found) ≡ 1024) × (length (now m) ≡ 1024) ⌝ }
-    requires { ⌜ TargetsFound (graphOf n (now sources) (now targets) (now leasts) (now mosts)) s (now found) (now m) v ⌝ }
-    ensures { λ r. ⌜ MOf (graphOf n (now (sources .entry)) (now (targets .entry)) (now (leasts .entry)) (now (mosts .entry))) s v (r .found) (r .value) ⌝ }
+    order: &[u16],
+    m: &mut [i32],
+)
+    requires { ⌜ ((ts : List ℕ) × (Ds : List ℤ) × (s : ℕ) × (m₀ : List ℤ) × PassReady n (now sources) ts (now leasts) Ds (now heads) (now nexts) (now order) s m₀ (now m)) ⌝ }
+    ensures { λ _. ⌜ ((ts : List ℕ) (Ds : List ℤ) (s : ℕ) (m₀ : List ℤ) → PassReady n (now (sources .entry)) ts (now (leasts .entry)) Ds (now (heads .entry)) (now (nexts .entry)) (now (order .entry)) s m₀ (now (m .entry)) → MAll (graphOf n (now (sources .entry)) ts (now (leasts .entry)) Ds) s m₀ (now (m .exit))) ⌝ }
 {
-    if v == s {
-        return Least {
-            found: true,
-            value: 0,
-        };
+    let mut k = 0;
+    while k < n {
+        let v = order[k] as usize;
+        k += 1;
+        if m[v] != ABSENT {
+            push(sources, leasts, heads, nexts, v, m);
+        }
     }
-    least_target(
-        n,
-        sources,
-        targets,
-        leasts,
-        mosts,
-        heads,
-        nexts,
-        v,
-        found,
-        m,
-    )
 }
 
-// m back from s. `heads` and `nexts` chain the rules by source.
+// m of each of the n events into `m`. Places beyond keep what they held.
 pub(crate) fn find_m(
     n: usize,
     sources: &[usize],
-    targets: &[usize],
     leasts: &[i64],
-    mosts: &[i64],
     heads: &[u16],
     nexts: &[u16],
-    order: &[usize],
+    order: &[u16],
     s: usize,
-    found: &mut [bool],
-    m: &mut [i64],
+    m: &mut [i32],
 )
-    requires { ⌜ Sized 1001000 (graphOf n (now sources) (now targets) (now leasts) (now mosts)) × (s < n) ⌝ }
-    requires { ⌜ Chained (now sources) (now heads) (now nexts) × (length (now heads) ≡ 1024) × (length (now nexts) ≡ 4096) ⌝ }
-    requires { ⌜ ((rank : ℕ → ℕ) × Order n (now sources) (now targets) (now order) rank) × (length (now order) ≡ 1024) ⌝ }
-    requires { ⌜ (length (now found) ≡ 1024) × (length (now m) ≡ 1024) ⌝ }
-    ensures { λ _. ⌜ ((v : ℕ) → v < n → MFound (graphOf n (now (sources .entry)) (now (targets .entry)) (now (leasts .entry)) (now (mosts .entry))) s (now (found .exit)) (now (m .exit)) v) ⌝ }
+    requires { ⌜ ((ts : List ℕ) × (Ds : List ℤ) × MReady n (now sources) ts (now leasts) Ds (now heads) (now nexts) (now order) s (now m)) ⌝ }
+    ensures { λ _. ⌜ ((ts : List ℕ) (Ds : List ℤ) → MReady n (now (sources .entry)) ts (now (leasts .entry)) Ds (now (heads .entry)) (now (nexts .entry)) (now (order .entry)) s (now (m .entry)) → MAll (graphOf n (now (sources .entry)) ts (now (leasts .entry)) Ds) s (now (m .entry)) (now (m .exit))) ⌝ }
 {
-    let mut k = n;
-    while k > 0 {
-        k -= 1;
-        let v = order[k];
-        let here = m_of(
-            n,
-            sources,
-            targets,
-            leasts,
-            mosts,
-            heads,
-            nexts,
-            order,
-            s,
-            v,
-            found,
-            m,
-        );
-        found[v] = here.found;
-        let value = here.value;
-        m[v] = value;
-    }
+    clear(n, m);
+    m[s] = 0;
+    push_all(n, sources, leasts, heads, nexts, order, m);
 }

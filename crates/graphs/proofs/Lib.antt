@@ -1,5 +1,6 @@
 -- Laws of event graphs, for every crate above.
 pub mod Cycle
+pub mod Closed
 pub mod Paths
 pub mod Rank
 pub mod Limits

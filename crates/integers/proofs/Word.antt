@@ -3,6 +3,8 @@
 --     read-back        and its bits are read back as the number
 --     within-sum, within-difference, within-negation, within-wider     bounds of a sum, a difference, a negation, and a looser bound
 --     read-difference, difference-fits, difference-back     what the code forms of two words' bits is their difference; it fits, and its bits are read back
+--     read-sum, sum-fits, sum-back    the same of a sum
+--     cast-fits, cast-back            a number that fits two widths is carried from one to the other
 -- Assumes nothing.
 use mathlib.Core.Path.{_≡_}
 use Prim.Native.Nat.{ℕ, suc, _+_, _<_, _≤_, _^_}
@@ -55,3 +57,22 @@ read-pair w R x y f g h =
     let e : toZ w (ofZ w x) ≡ x = toZ-ofZ w x (record { sfits = f }) in
     let k : toZ w (ofZ w y) ≡ y = toZ-ofZ w y (record { sfits = g }) in
     rw (e, k) at h
+
+-- ---- a sum of two words, as the code forms it
+
+pub read-sum : (w : Width) (a b : ℕ) (x y : ℤ) → a + b < 2 ^ hbits w → Within a x → Within b y → toZ w (ofZ w x) +ℤ toZ w (ofZ w y) ≡ x +ℤ y
+read-sum w a b x y l h k = rw (read-back w a x (omega arith) h, read-back w b y (omega arith) k)
+
+pub sum-fits : (w : Width) (a b : ℕ) (x y : ℤ) → a + b < 2 ^ hbits w → Within a x → Within b y → SFits w (toZ w (ofZ w x) +ℤ toZ w (ofZ w y))
+sum-fits w a b x y l h k = rw (read-sum w a b x y l h k) (within-fits w (a + b) (x +ℤ y) l (within-sum h k))
+
+pub sum-back : (w : Width) (a b : ℕ) (x y : ℤ) → a + b < 2 ^ hbits w → Within a x → Within b y → toZ w (ofZ w (toZ w (ofZ w x) +ℤ toZ w (ofZ w y))) ≡ x +ℤ y
+sum-back w a b x y l h k = rw (read-sum w a b x y l h k) (read-back w (a + b) (x +ℤ y) l (within-sum h k))
+
+-- ---- a word of one width put into another: the number that it holds fits both
+
+pub cast-fits : (v w : Width) (b : ℕ) (x : ℤ) → b < 2 ^ hbits v → b < 2 ^ hbits w → Within b x → SFits w (toZ v (ofZ v x))
+cast-fits v w b x l k h = rw (read-back v b x l h) (within-fits w b x k h)
+
+pub cast-back : (v w : Width) (b : ℕ) (x : ℤ) → b < 2 ^ hbits v → b < 2 ^ hbits w → Within b x → toZ w (ofZ w (toZ v (ofZ v x))) ≡ x
+cast-back v w b x l k h = rw (read-back v b x l h) (read-back w b x k h)

@@ -32,7 +32,7 @@ pub(crate) fn analysed(
     limit: usize,
     s: usize,
     t: usize,
-    latest: &mut [i64],
+    latest: &mut [i32],
 ) -> Answer
     requires { ⌜ length (now latest) ≡ 1024 ⌝ }
     ensures { λ r. ⌜ AnswerAnalysed limit (graphOf n (now (sources .entry)) (now (targets .entry)) (now (leasts .entry)) (now (mosts .entry))) s t (now (latest .exit)) r ⌝ }
@@ -44,7 +44,7 @@ pub(crate) fn analysed(
     Answer {
         refusal: found.refusal,
         place: found.place,
-        separation: latest[t],
+        separation: latest[t] as i64,
         source_depth: found.source_depth,
         target_depth: found.target_depth,
     }
@@ -64,7 +64,7 @@ pub(crate) fn analysed_rounded(
     ensures { λ r. ⌜ ((us : List ℤ) × AnswerAnalysed 1001000 (graphOf n (now (sources .entry)) (now (targets .entry)) (take (length (now (sources .entry))) (now (low .entry))) (take (length (now (sources .entry))) (now (high .entry)))) s t us r) ⌝ }
 {
     let rules = sources.len();
-    let mut latest = [0i64; 1024];
+    let mut latest = [0i32; 1024];
     analysed(
         n,
         sources,

@@ -44,7 +44,7 @@ pub fn separation(
 ) -> Answer
     ensures { λ r. ⌜ Answered (graphOf n (now (sources .entry)) (now (targets .entry)) (now (leasts .entry)) (now (mosts .entry))) s t ⊥ r ⌝ }
 {
-    let mut latest = [0i64; 1024];
+    let mut latest = [0i32; 1024];
     analysed(
         n,
         sources,
@@ -81,7 +81,7 @@ pub fn schedule(
     if too_short(times.len(), n, delays.len(), sources.len()) {
         return refused(23, 0);
     }
-    let mut latest = [0i64; 1024];
+    let mut latest = [0i32; 1024];
     let answer = analysed(
         n,
         sources,

@@ -24,8 +24,16 @@ pub(crate) fn too_short(times: usize, n: usize, delays: usize, rules: usize) -> 
     false
 }
 
+// x − y. It may pass 32 bits, so both are widened first.
+fn difference(x: i32, y: i32) -> i64
+    requires { ⌜ Within 2050048000 x × Within 2050048000 y ⌝ }
+    ensures { λ r. ⌜ r ≡ x -ℤ y ⌝ }
+{
+    x as i64 - y as i64
+}
+
 // The time of each event, U(v) − U(root). `latest` holds U.
-pub(crate) fn write_times(n: usize, latest: &[i64], times: &mut [i64])
+pub(crate) fn write_times(n: usize, latest: &[i32], times: &mut [i64])
     requires { ⌜ (1 ≤ n) × (n ≤ 1024) × (length (now latest) ≡ 1024) × (n ≤ length (now times)) ⌝ }
     requires { ⌜ ((v : ℕ) → v < n → Within 2050048000 (getD (now latest) v (pos 0))) ⌝ }
     ensures { λ _. ⌜ Filled (pos 0) n (TimeAt (now (latest .entry))) (now (times .entry)) (now (times .exit)) ⌝ }
@@ -33,7 +41,7 @@ pub(crate) fn write_times(n: usize, latest: &[i64], times: &mut [i64])
     let root = latest[0];
     let mut v = 0;
     while v < n {
-        times[v] = latest[v] - root;
+        times[v] = difference(latest[v], root);
         v += 1;
     }
 }

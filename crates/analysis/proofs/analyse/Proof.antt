@@ -1,18 +1,14 @@
--- `analyse` meets its contract: what `check_counts`, `check_input` and `analyse_kept` promise, put together. Assumes nothing.
-use mathlib.Core.Path.{_≡_}
-use Prim.Native.Nat.{ℕ, _<_}
+-- `analyse` meets its contract: what its parts promise, put together. Assumes nothing.
+use borrow.Author.Needs.{needs}
+use Prim.Native.Nat.{_<_}
 use native.Mathlib.Omega.{arith}
 use lib.ListN.{length}
 use denote.Ref.{now}
-use borrow.Author.Needs.{needs}
-use Rattle.verdicts.specs.Verdict.{Accepted}
+use borrow.Author.Tests.{leb-true, not-true, not-false}
 use Rattle.graphs.specs.Graph.{Graph, graphOf}
 use Rattle.graphs.specs.Limits.{CountsKept}
-use Rattle.refusals.specs.Question.{delayLimit}
 use Rattle.refusals.proofs.Counts.{counts-of}
-use Rattle.refusals.proofs.Question.{QuestionKept, question-kept}
-use Rattle.analysis.proofs.Arranging.{sized-up}
-use Rattle.analysis.proofs.Promises.{analysed-counts, analysed-short, analysed-input, analysed-paths}
+use Rattle.analysis.proofs.Promises.{analysed-counts, analysed-short, analysed-input-refused}
 use Rattle.analysis.proofs.analyse.Statement.{statement}
 use Rattle.analysis.proofs.analyse.Tie as tie
 
@@ -24,9 +20,6 @@ counts c = counts-of (c .if1 .left) (c .before .check-counts .ensures)
 
 room : (c : tie.Else2) → length (now (c .before .before .before .before .before .args .latest)) < c .before .before .before .before .before .args .n → ⊥
 room c l = omega (arith, c .if2 .left)
-
-kept : (c : tie.Else3) → QuestionKept (delayLimit (c .before .before .before .before .before .before .before .before .args .limit)) (graph (c .before .before .before .before .before .before .before .before)) (c .before .before .before .before .before .before .before .before .args .s) (c .before .before .before .before .before .before .before .before .args .t)
-kept c = question-kept Accepted (c .if3 .left) (c .before .before .check-input .ensures) .0
 
 check-counts-requires : tie.Need-check-counts-requires
 check-counts-requires c κs = search needs
@@ -43,28 +36,39 @@ refused-requires-2 c κs = search needs
 returns-2 : tie.Need-returns-2
 returns-2 c = analysed-short (c .refused2 .ensures) (counts (c .before .before)) (c .before .if2 .taken)
 
-check-input-requires : tie.Need-check-input-requires
-check-input-requires c κs = search needs
+both-known-requires : tie.Need-both-known-requires
+both-known-requires c κs = search needs
 
-refused-requires-3 : tie.Need-refused-requires-3
-refused-requires-3 c κs = search needs
+input-refused-requires : tie.Need-input-refused-requires
+input-refused-requires c κs = search needs
 
 returns-3 : tie.Need-returns-3
-returns-3 c = analysed-input (room (c .before .before .before .before)) _ _ (c .before .if3 .taken) (c .refused3 .ensures) (c .before .before .before .check-input .ensures)
+returns-3 c =
+    analysed-input-refused (room (c .before .before .before))
+    (λ k. c .before .before .both-known .ensures .1 (not-true _ (c .before .if3 .taken)) (k .source-known, k .target-known))
+    (c .input-refused .ensures)
 
-analyse-kept-requires : tie.Need-analyse-kept-requires
-analyse-kept-requires c κs =
-    let passed = c .before in
-    let k = kept passed in
-    (sized-up {g = graph (passed .before .before .before .before .before .before .before .before)} (omega arith) (k .sized), (k .source-known, k .target-known, passed .before .before .before .if2 .left))
+analyse-small-requires : tie.Need-analyse-small-requires
+analyse-small-requires c κs =
+    let (s, t) = c .before .before .before .before .both-known .ensures .0 (not-false _ (c .before .before .before .if3 .left)) in
+    ((counts (c .before .before .before .before .before .before), s, t, c .before .before .before .before .before .if2 .left), (c .before .before .if4 .taken, leb-true _ _ (c .before .if5 .taken)))
 
 same-length : tie.Need-same-length
 same-length c = search needs
 
 returns-4 : tie.Need-returns-4
-returns-4 c =
-    let passed = c .before .before .before in
-    analysed-paths (room (passed .before .before .before)) (kept passed) (c .before .analyse-kept .kept .1 .1 .1 .1 .1 .1 .1 .0) (c .before .analyse-kept .ensures)
+returns-4 c = search needs
+
+analyse-large-requires : tie.Need-analyse-large-requires
+analyse-large-requires c κs =
+    let (s, t) = c .before .before .before .both-known .ensures .0 (not-false _ (c .before .before .if3 .left)) in
+    (counts (c .before .before .before .before .before), s, t, c .before .before .before .before .if2 .left)
+
+same-length-2 : tie.Need-same-length-2
+same-length-2 c = search needs
+
+returns-5 : tie.Need-returns-5
+returns-5 c = search needs
 
 pub analyse-spec : {M : Type 1} → statement M
 analyse-spec =
@@ -75,9 +79,12 @@ analyse-spec =
     returns
     refused-requires-2
     returns-2
-    check-input-requires
-    refused-requires-3
+    both-known-requires
+    input-refused-requires
     returns-3
-    analyse-kept-requires
+    analyse-small-requires
     same-length
-    returns-4)
+    returns-4
+    analyse-large-requires
+    same-length-2
+    returns-5)

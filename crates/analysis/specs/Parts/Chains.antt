@@ -1,7 +1,7 @@
--- The rules of one event, chained in two arrays. `keys` names an event for each rule: its source, or its target.
---     Last keys v k e       == e is 1 + the last rule below k whose key is v, or 0 where there is none
---     Chained keys heads nexts == from heads[v], by nexts, one goes through all rules with key v, the last one first
---     ChainLists keys heads nexts == so chained, in arrays of 1,024 and 4,096 places
+-- The rules of one event, chained in two arrays. `keys` names an event for each rule: its target.
+--     Last keys v k e              == e is 1 + the last rule below k whose key is v, or 0 where there is none
+--     Chained keys heads nexts     == from heads[v], by nexts, one goes through all rules with key v, the last one first
+--     ChainLists n keys heads nexts == so chained, with a head for each of n events and a place for each rule
 -- Assumes nothing.
 use mathlib.Core.Path.{_≡_}
 use mathlib.Core.List.{List}
@@ -14,10 +14,10 @@ pub record Last (keys : List ℕ) (v k e : ℕ) : Type 0 where
   pub none : (i : ℕ) → e ≤ i → i < k → getD keys i 0 ≡ v → ⊥
 
 pub record Chained (keys heads nexts : List ℕ) : Type 0 where
-  pub heads-last : (v : ℕ) → v < 1024 → Last keys v (length keys) (getD heads v 0)
+  pub heads-last : (v : ℕ) → v < length heads → Last keys v (length keys) (getD heads v 0)
   pub nexts-last : (i : ℕ) → i < length keys → Last keys (getD keys i 0) i (getD nexts i 0)
 
-pub record ChainLists (keys heads nexts : List ℕ) : Type 0 where
+pub record ChainLists (n : ℕ) (keys heads nexts : List ℕ) : Type 0 where
   pub chained : Chained keys heads nexts
-  pub heads-length : length heads ≡ 1024
-  pub nexts-length : length nexts ≡ 4096
+  pub heads-room : n ≤ length heads
+  pub nexts-room : length keys ≤ length nexts

@@ -1,5 +1,5 @@
--- An order of the events in which sources come first.
---     Order n ss ts order rank == order lists the events 0 to n − 1, each once, event v at place rank v, and the source of each rule before its target
+-- An order of the events in which targets come first: from the sinks to the root.
+--     Order n ss ts order rank == order lists the events 0 to n − 1, each once, event v at place rank v, and the target of each rule before its source
 --     Ordered n ss ts order b  == b is true and order is such an order, or b is false and the graph has a cycle
 -- ss and ts are the sources and the targets of the rules. Assumes nothing.
 use mathlib.Core.Path.{_≡_}
@@ -16,7 +16,7 @@ pub record Order (n : ℕ) (ss ts order : List ℕ) (rank : ℕ → ℕ) : Type 
   pub order-rank : (v : ℕ) → v < n → getD order (rank v) 0 ≡ v
   pub order-below : (k : ℕ) → k < n → getD order k 0 < n
   pub rank-order : (k : ℕ) → k < n → rank (getD order k 0) ≡ k
-  pub sources-first : (i : ℕ) → i < length ss → rank (getD ss i 0) < rank (getD ts i 0)
+  pub targets-first : (i : ℕ) → i < length ss → rank (getD ts i 0) < rank (getD ss i 0)
 
 pub record Ordered (n : ℕ) (ss ts order : List ℕ) (b : Bool) : Type 0 where
   pub ordered : b ≡ true → (rank : ℕ → ℕ) × Order n ss ts order rank

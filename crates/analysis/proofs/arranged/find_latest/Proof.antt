@@ -1,59 +1,66 @@
 -- `find_latest` meets its contract: what `find_m` and `find_u` promise, put together. Assumes nothing.
-use mathlib.Core.Path.{_≡_, refl, _∙_}
 use borrow.Author.Needs.{needs}
+use mathlib.Core.Path.{_∙_}
+use mathlib.Core.List.{List}
+use Prim.Native.Nat.{ℕ}
+use native.Mathlib.Omega.{arith}
+use lib.ListN.{set, length-set}
+use lib.Seq.{getD-set-same}
+use Rattle.graphs.specs.Graph.{graphOf}
+use Rattle.graphs.specs.Limits.{EventGraph}
+use Rattle.analysis.specs.Parts.Reach.{Arranged}
+use Rattle.analysis.specs.Parts.Paths.{MReady, MAll}
+use Rattle.analysis.specs.Parts.Latest.{LatestReady}
 use Rattle.analysis.proofs.arranged.find_latest.Statement.{statement}
 use Rattle.analysis.proofs.arranged.find_latest.Tie as tie
 
-slice-aggregate-find-m : tie.Need-slice-aggregate-find-m
-slice-aggregate-find-m c = search needs
+m-ready :
+    (c : tie.Start) (ts : List ℕ) → Arranged (c .args .n) (c .args .sources .now) ts (c .args .heads .now) (c .args .nexts .now) (c .args .order .now) →
+    EventGraph 1001000 (graphOf (c .args .n) (c .args .sources .now) ts (c .args .leasts .now) (c .args .mosts .now)) →
+    MReady (c .args .n) (c .args .sources .now) ts (c .args .leasts .now) (c .args .mosts .now) (c .args .heads .now) (c .args .nexts .now) (c .args .order .now) (c .args .s) (c .args .latest .now)
+m-ready c ts a graph = record { arranged = a; sized = graph .sized; source-known = c .pre .1 .0; room = c .pre .1 .2 }
 
-slice-aggregate-find-m-2 : tie.Need-slice-aggregate-find-m-2
-slice-aggregate-find-m-2 c = search needs
+module _
+    (c : tie.After-find-m) (ts : List ℕ) (a : Arranged (c .before .before .before .before .before .before .before .args .n) (c .before .before .before .before .before .before .before .args .sources .now) ts (c .before .before .before .before .before .before .before .args .heads .now) (c .before .before .before .before .before .before .before .args .nexts .now) (c .before .before .before .before .before .before .before .args .order .now))
+    (graph : EventGraph 1001000 (graphOf (c .before .before .before .before .before .before .before .args .n) (c .before .before .before .before .before .before .before .args .sources .now) ts (c .before .before .before .before .before .before .before .args .leasts .now) (c .before .before .before .before .before .before .before .args .mosts .now)))
+  where
+    all-m : MAll (graphOf (c .before .before .before .before .before .before .before .args .n) (c .before .before .before .before .before .before .before .args .sources .now) ts (c .before .before .before .before .before .before .before .args .leasts .now) (c .before .before .before .before .before .before .before .args .mosts .now)) (c .before .before .before .before .before .before .before .args .s) (c .before .before .before .before .before .before .before .args .latest .now) (c .find-m .last .1 .1 .1 .1 .1 .1 .1 .0)
+    all-m = c .find-m .ensures ts _ (m-ready (c .before .before .before .before .before .before .before) ts a graph)
+
+    u-ready : LatestReady (c .before .before .before .before .before .before .before .args .n) (c .before .before .before .before .before .before .before .args .sources .now) ts (c .before .before .before .before .before .before .before .args .leasts .now) (c .before .before .before .before .before .before .before .args .mosts .now) (c .before .before .before .before .before .before .before .args .heads .now) (c .before .before .before .before .before .before .before .args .nexts .now) (c .before .before .before .before .before .before .before .args .order .now) (c .before .before .before .before .before .before .before .args .s) (c .find-m .last .1 .1 .1 .1 .1 .1 .1 .0) (set (c .before .before .before .before .before .before .before .args .depth .now) 0 0)
+    u-ready =
+        record {
+          arranged = a;
+          graph = graph;
+          source-known = c .before .before .before .before .before .before .before .pre .1 .0;
+          us-room = rw (all-m .same-length) (c .before .before .before .before .before .before .before .pre .1 .2);
+          depth-room = rw length-set (c .before .before .before .before .before .before .before .pre .1 .1);
+          root-depth = getD-set-same (c .before .before .before .before .before .before .before .args .depth .now) 0 0 0 (omega (arith, c .before .before .before .before .before .before .before .pre .1));
+          held = all-m .each;
+        }
 
 find-m-requires : tie.Need-find-m-requires
-find-m-requires c κs =
-    let start = c .before .before .before .before .before .before .before .before .before in
-    let arranged = start .pre .1 .0 in (
-      (start .pre .0 .sized, start .pre .1 .1 .0),
-      (
-        (arranged .by-source .chained, arranged .by-source .heads-length, arranged .by-source .nexts-length),
-        (((arranged .rank, arranged .ordered), arranged .order-long), (refl {a = 1024}, refl {a = 1024})),
-      ),
-    )
+find-m-requires c κs = let (ts, a, graph) = c .before .before .before .before .before .before .pre .0 in (ts, _, m-ready (c .before .before .before .before .before .before) ts a graph)
 
-slice-aggregate-find-u : tie.Need-slice-aggregate-find-u
-slice-aggregate-find-u c = search needs
-
-slice-aggregate-find-u-2 : tie.Need-slice-aggregate-find-u-2
-slice-aggregate-find-u-2 c = search needs
+slice-write-depth : tie.Need-slice-write-depth
+slice-write-depth c = omega (arith, c .before .before .before .before .before .before .before .before .pre .1)
 
 find-u-requires : tie.Need-find-u-requires
-find-u-requires c κs =
-    let start = c .before .before .before .before .before .before .before .before .before .before .before .before .before .before .before in
-    let arranged = start .pre .1 .0 in
-    let found = c .before .before .before .before .before .find-m in (
-      (start .pre .0, start .pre .1 .1 .0),
-      (
-        (arranged .by-target .chained, arranged .by-target .heads-length, arranged .by-target .nexts-length),
-        (((arranged .rank, arranged .ordered), arranged .order-long), ((found .kept .1 .1 .1 .1 .1 .1 .1 .1 .1 .0, found .kept .1 .1 .1 .1 .1 .1 .1 .1 .1 .1 .0, found .ensures), start .pre .1 .1 .1)),
-      ),
-    )
+find-u-requires c κs = let (ts, a, graph) = c .before .before .before .before .before .before .before .before .before .before .pre .0 in (ts, _, _, u-ready (c .before .before .before) ts a graph)
 
 same-length : tie.Need-same-length
-same-length c = search needs
+same-length c = c .before .before .before .find-u .kept .1 .1 .1 .1 .1 .1 .1 .0 ∙ length-set (c .before .before .before .before .before .before .before .before .before .before .before .before .before .before .args .depth .now) 0 0
+
+same-length-2 : tie.Need-same-length-2
+same-length-2 c = search needs
 
 returns : tie.Need-returns
-returns c = search needs
+returns c =
+    λ ts a graph.
+    let (latest, depths) = c .before .before .before .find-u .ensures ts _ _ (u-ready (c .before .before .before .before .before .before .before) ts a graph) in
+    (record { steps = latest .steps; within = latest .within; beyond = latest .beyond ∙ all-m (c .before .before .before .before .before .before .before) ts a graph .beyond }, depths)
 
 pub find-latest-spec : {M : Type 1} → statement M
 find-latest-spec =
     tie.close
-    (tie.spec
-    slice-aggregate-find-m
-    slice-aggregate-find-m-2
-    find-m-requires
-    slice-aggregate-find-u
-    slice-aggregate-find-u-2
-    find-u-requires
-    same-length
-    returns)
+    (tie.spec find-m-requires slice-write-depth find-u-requires same-length same-length-2 returns)

@@ -57,7 +57,7 @@ cast-e : tie.Need-cast-e Inv-loop μ-loop
 cast-e c = omega (arith, c .shared-slice-known .given (c .before .args .event))
 
 loop-holds : tie.Need-loop-holds Inv-loop μ-loop
-loop-holds c = marking-start _ _ _ _ (c .before .pre .1 .0 .0) _ _ _ _ (omega (arith, c .before .pre .0)) (c .before .pre .1 .1 .1)
+loop-holds c = marking-start _ _ _ _ (c .before .pre .1 .0 .0) _ _ _ _ (c .before .pre .0 .0) (c .before .pre .1 .1 .1)
 
 sub-i : tie.Need-sub-i Inv-loop μ-loop
 sub-i c = search needs

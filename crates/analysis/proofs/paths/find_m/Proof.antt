@@ -1,121 +1,44 @@
--- `find_m` meets its contract. The invariant: m is known of the events from place k on. The measure is k. Assumes nothing.
-use mathlib.Core.Path.{_≡_, sym, _∙_}
-use Prim.Native.Nat.{_-_, _<_}
+-- `find_m` meets its contract: what `clear` and `push_all` promise, put together. Assumes nothing.
+use mathlib.Core.Path.{_≡_, _∙_}
+use mathlib.Core.List.{List}
+use Prim.Native.Nat.{ℕ}
 use native.Mathlib.Omega.{arith}
-use lib.ListN.{getD}
-use mir.Syntax.{w64}
-use mir.Val.{SFits}
-use mir.Facts.{toZ-ofZ}
-use borrow.Author.Needs.{needs}
-use Rattle.graphs.specs.Graph.{Graph, graphOf}
-use Rattle.analysis.proofs.MPass.{MFrom, m-start, m-event, m-targets, m-turn, m-end}
+use lib.IntN.{ℤ, pos}
+use lib.ListN.{length, set, length-set}
+use Rattle.analysis.specs.Parts.Paths.{MReady, PassReady}
+use Rattle.analysis.proofs.MPass.{pass-begin}
 use Rattle.analysis.proofs.paths.find_m.Statement.{statement}
 use Rattle.analysis.proofs.paths.find_m.Tie as tie
 
-abbrev Inv-loop : tie.InvT-loop
-Inv-loop n sources targets leasts mosts heads nexts order s found₀ m₀ k₀ found m k = MFrom (graphOf n sources targets leasts mosts) s order found m k
+begun :
+    (c : tie.After-clear) (ts : List ℕ) (Ds : List ℤ) →
+    MReady (c .before .before .before .before .before .before .args .n) (c .before .before .before .before .before .before .args .sources .now) ts (c .before .before .before .before .before .before .args .leasts .now) Ds (c .before .before .before .before .before .before .args .heads .now) (c .before .before .before .before .before .before .args .nexts .now) (c .before .before .before .before .before .before .args .order .now) (c .before .before .before .before .before .before .args .s) (c .before .before .before .before .before .before .args .m .now) →
+    PassReady (c .before .before .before .before .before .before .args .n) (c .before .before .before .before .before .before .args .sources .now) ts (c .before .before .before .before .before .before .args .leasts .now) Ds (c .before .before .before .before .before .before .args .heads .now) (c .before .before .before .before .before .before .args .nexts .now) (c .before .before .before .before .before .before .args .order .now) (c .before .before .before .before .before .before .args .s) (c .before .before .before .before .before .before .args .m .now) (set (c .clear .last .1 .0) (c .before .before .before .before .before .before .args .s) (pos 0))
+begun c ts Ds r =
+    let same : length (c .clear .last .1 .0) ≡ length (c .before .before .before .before .before .before .args .m .now) = c .clear .kept .1 .0 in
+    record {
+      ready = record { arranged = r .arranged; sized = r .sized; source-known = r .source-known; room = rw (length-set, same) (r .room) };
+      pass = pass-begin _ _ ts _ Ds _ _ _ _ (r .arranged) (r .sized) _ _ (r .source-known) (omega (arith, r .room)) (c .clear .ensures .each) (c .clear .ensures .beyond) same;
+    }
 
-abbrev μ-loop : tie.MeasureT-loop
-μ-loop n sources targets leasts mosts heads nexts order s found₀ m₀ k₀ found m k = k
+clear-requires : tie.Need-clear-requires
+clear-requires c κs = let (ts, Ds, r) = c .before .before .before .before .before .pre in r .room
 
-abbrev graph : tie.Start Inv-loop μ-loop → Graph
-graph s = graphOf (s .args .n) (s .args .sources .now) (s .args .targets .now) (s .args .leasts .now) (s .args .mosts .now)
+mul-m : tie.Need-mul-m
+mul-m c = let (ts, Ds, r) = c .before .before .before .before .before .before .before .pre in omega (arith, r .source-known, r .arranged .kept .few-events)
 
-abbrev start : tie.At-loop Inv-loop μ-loop → tie.Start Inv-loop μ-loop
-start a = a .before .before .before .before .before .before .before
+slice-set-of-m : tie.Need-slice-set-of-m
+slice-set-of-m c = let (ts, Ds, r) = c .before .before .before .before .before .before .before .pre in omega (arith, r .source-known, r .room, c .before .clear .kept .1 .0)
 
--- the event whose turn it is
-event-small : (c : tie.In-loop Inv-loop μ-loop) → getD (start (c .before) .args .order .now) (c .before .loop .k - 1) 0 < 1024
-event-small c =
-    let s = start (c .before) in
-    let l = c .before .loop in
-    omega (arith, m-event (graph s) (s .args .s) (s .args .order .now) (l .found) (l .m) (l .k) (c .loop-test .taken) (l .inv), s .pre .0 .0 .counts .few-events)
+push-all-requires : tie.Need-push-all-requires
+push-all-requires c κs = let (ts, Ds, r) = c .before .before .before .before .before .before .before .before .pre in (ts, Ds, _, _, begun (c .before .before) ts Ds r)
 
-loop-holds : tie.Need-loop-holds Inv-loop μ-loop
-loop-holds c =
-    let s = c .before .before .before .before .before .before in
-    let (rank, ordered) = s .pre .1 .1 .0 .0 in
-    m-start (graph s) (s .args .s) (s .args .order .now) (s .args .found .now) (s .args .m .now) rank ordered (s .pre .1 .1 .1 .0) (s .pre .1 .1 .1 .1)
+same-length : tie.Need-same-length
+same-length c = c .before .push-all .kept .1 .1 .1 .1 .1 .1 .0 ∙ (length-set (c .before .before .before .before .clear .last .1 .0) (c .before .before .before .before .before .before .before .before .before .before .args .s) (pos 0) ∙ c .before .before .before .before .clear .kept .1 .0)
 
-sub-k : tie.Need-sub-k Inv-loop μ-loop
-sub-k c = omega arith
-
-mul-v : tie.Need-mul-v Inv-loop μ-loop
-mul-v c = omega (arith, c .before .loop .inv .place, start (c .before) .pre .0 .0 .counts .few-events)
-
-shared-slice-read-v : tie.Need-shared-slice-read-v Inv-loop μ-loop
-shared-slice-read-v c =
-    let s = start (c .before .before) in
-    omega (arith, c .before .before .loop .inv .place, s .pre .0 .0 .counts .few-events, s .pre .1 .1 .0 .1)
-
-m-of-requires : tie.Need-m-of-requires Inv-loop μ-loop
-m-of-requires c κs =
-    let d = c .before .before .before in
-    let s = start (d .before) in
-    let l = d .before .loop in (
-      (s .pre .0 .0, s .pre .0 .1, m-event (graph s) (s .args .s) (s .args .order .now) (l .found) (l .m) (l .k) (d .loop-test .taken) (l .inv)),
-      (
-        s .pre .1 .0,
-        (
-          s .pre .1 .1 .0 .0,
-          (
-            (l .inv .found-length, l .inv .m-length),
-            m-targets (graph s) (s .args .s) (s .args .order .now) (l .found) (l .m) (l .k) (d .loop-test .taken) (l .inv) (s .pre .0 .0),
-          ),
-        ),
-      ),
-    )
-
-slice-write-found : tie.Need-slice-write-found Inv-loop μ-loop
-slice-write-found c = let d = c .before .before .before .before in omega (arith, event-small d, d .before .loop .inv .found-length)
-
-mul-value : tie.Need-mul-value Inv-loop μ-loop
-mul-value c = omega (arith, event-small (c .before .before .before .before .before))
-
-slice-set-from-value : tie.Need-slice-set-from-value Inv-loop μ-loop
-slice-set-from-value c = let d = c .before .before .before .before .before in omega (arith, event-small d, d .before .loop .inv .m-length)
-
-loop-less : tie.Need-loop-less Inv-loop μ-loop
-loop-less c = omega (arith, c .before .before .before .before .before .loop-test .taken)
-
-loop-again : tie.Need-loop-again Inv-loop μ-loop
-loop-again c =
-    let d = c .before .before .before .before .before in
-    let s = start (d .before) in
-    let l = d .before .loop in
-    let fits : SFits w64 (c .before .m-of .result .value) = search needs in
-    rw (toZ-ofZ fits)
-    (m-turn (graph s) (s .args .s) (s .args .order .now) (l .found) (l .m) (l .k) (d .loop-test .taken) (l .inv) (s .pre .0 .0 .counts .few-events) (c .before .m-of .ensures))
-
-same-length : tie.Need-same-length Inv-loop μ-loop
-same-length c = c .before .loop .inv .found-length ∙ sym (start (c .before) .pre .1 .1 .1 .0)
-
-same-length-2 : tie.Need-same-length-2 Inv-loop μ-loop
-same-length-2 c = c .before .loop .inv .m-length ∙ sym (start (c .before) .pre .1 .1 .1 .1)
-
-returns : tie.Need-returns Inv-loop μ-loop
-returns c =
-    let s = start (c .before) in
-    let l = c .before .loop in
-    let none : l .k ≡ 0 = omega arith in
-    m-end (graph s) (s .args .s) (s .args .order .now) (l .found) (l .m) (rw none at (l .inv))
+returns : tie.Need-returns
+returns c = λ ts Ds r. c .before .push-all .ensures ts Ds _ _ (begun (c .before .before .before .before) ts Ds r)
 
 pub find-m-spec : {M : Type 1} → statement M
 find-m-spec =
-    tie.close
-    (tie.spec
-    Inv-loop
-    μ-loop
-    loop-holds
-    sub-k
-    mul-v
-    shared-slice-read-v
-    m-of-requires
-    slice-write-found
-    mul-value
-    slice-set-from-value
-    loop-less
-    loop-again
-    same-length
-    same-length-2
-    returns)
+    tie.close (tie.spec clear-requires mul-m slice-set-of-m push-all-requires same-length returns)

@@ -4,10 +4,10 @@ use Prim.Native.Nat.{ℕ, _<_, _≤_}
 use native.Mathlib.Omega.{arith}
 use lib.Dec.{lit<}
 use lib.ListN.{length}
-use mir.Syntax.{w64}
+use mir.Syntax.{w32, w64}
 use denote.Ref.{now}
 use borrow.Author.Needs.{needs}
-use Rattle.integers.proofs.Word.{read-back}
+use Rattle.integers.proofs.Word.{cast-fits, cast-back}
 use Rattle.separation.proofs.Analyses.{answer-refused, answer-found}
 use Rattle.separation.proofs.answers.analysed.Statement.{statement}
 use Rattle.separation.proofs.answers.analysed.Tie as tie
@@ -37,6 +37,11 @@ mul-t14 c = record { fits = omega (arith, ends-below c) }
 slice-copy-out-t16 : tie.Need-slice-copy-out-t16
 slice-copy-out-t16 c = omega (arith, ends-below c, c .before .before .before .analyse .kept .1 .1 .1 .1 .1 .1 .1 .1 .0, c .before .before .before .before .before .before .before .pre)
 
+cast-t17 : tie.Need-cast-t17
+cast-t17 c =
+    let found = c .before .before .before .before .analyse .ensures .found (c .before .if1 .left) in
+    cast-fits w32 w64 2050048000 _ (lit< tt) (lit< tt) (found .within _ (found .target-known))
+
 same-length-2 : tie.Need-same-length-2
 same-length-2 c = search needs
 
@@ -45,7 +50,7 @@ returns-2 c =
     let call = c .before .before .before .before .analyse in
     let zero = c .before .if1 .left in
     let found = call .ensures .found zero in
-    answer-found (c .before .before .before .before .before .before .before .before .pre) (call .ensures) _ zero (read-back w64 2050048000 _ (lit< tt) (found .within _ (found .target-known)))
+    answer-found (c .before .before .before .before .before .before .before .before .pre) (call .ensures) _ zero (cast-back w32 w64 2050048000 _ (lit< tt) (lit< tt) (found .within _ (found .target-known)))
 
 pub analysed-spec : {M : Type 1} → statement M
-analysed-spec = tie.close (tie.spec analyse-requires refused-requires same-length returns mul-t14 slice-copy-out-t16 same-length-2 returns-2)
+analysed-spec = tie.close (tie.spec analyse-requires refused-requires same-length returns mul-t14 slice-copy-out-t16 cast-t17 same-length-2 returns-2)

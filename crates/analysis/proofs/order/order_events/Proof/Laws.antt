@@ -1,8 +1,7 @@
 -- What is known once every placed event has been served.
---     below-wider       events below n are below 1024
---     turn-ordered      `Ordered`, with the test whether all n events are placed
+--     served-ordered      `Ordered`, with the test whether all n events are placed
 -- With all events placed, the ranks are the order that is asked for. With some event left, each event that is left waits for a rule that is not
--- served, and the source of such a rule is left too: so the graph has a cycle. Assumes nothing.
+-- served, and the target of such a rule is left too: so the graph has a cycle. Assumes nothing.
 use mathlib.Core.Path.{_≡_, subst}
 use mathlib.Core.List.{List}
 use Prim.Native.Nat.{ℕ, _<_, _≤_}
@@ -14,17 +13,14 @@ use lib.IntN.{ℤ}
 use lib.ListN.{length, getD}
 use Rattle.graphs.specs.Graph.{graphOf}
 use Rattle.graphs.specs.Path.{HasCycle}
-use Rattle.graphs.proofs.Cycle.{backward-closed-cycle}
+use Rattle.graphs.proofs.Closed.{forward-closed-cycle}
 use Rattle.analysis.specs.Parts.Order.{Order, Ordered}
-use Rattle.analysis.specs.Parts.Passes.{EndsBelow}
-use Rattle.analysis.specs.Parts.Placing.{RulesKept, Turn}
+use Rattle.analysis.specs.Parts.Rules.{RulesKept}
+use Rattle.analysis.specs.Parts.Placing.{Serving}
 use Rattle.sequences.specs.Counted.{Counted}
 use Rattle.sequences.proofs.Counting.{counted-none, counted-some}
 
-pub below-wider : {n : ℕ} {keys : List ℕ} → n ≤ 1024 → EndsBelow n keys → EndsBelow 1024 keys
-below-wider l b = record { below = λ i k. omega (arith, b .below i k) }
-
-module _ (n : ℕ) (ss ts waiting order : List ℕ) (tail : ℕ) (kept : RulesKept n ss ts) (p : Turn n ss ts waiting order tail tail) where
+module _ (n : ℕ) (ss ts waiting order : List ℕ) (tail : ℕ) (kept : RulesKept n ss ts) (p : Serving n ss ts waiting order tail tail) where
   all-placed : tail ≡ n → (v : ℕ) → v < n → p .rank v < n
   all-placed e v l = placed (decLt (p .rank v) n)
     where
@@ -39,7 +35,7 @@ module _ (n : ℕ) (ss ts waiting order : List ℕ) (tail : ℕ) (kept : RulesKe
         order-rank = λ v l. p .placed .order-rank v (omega (arith, all-placed e v l));
         order-below = λ k l. p .placed .order-below k (omega arith);
         rank-order = λ k l. p .placed .rank-order k (omega arith);
-        sources-first = λ i l. p .placed .sources-first i l (omega (arith, all-placed e (getD ts i 0) (kept .targets-below .below i (omega (arith, kept .targets-match)))));
+        targets-first = λ i l. p .placed .targets-first i l (omega (arith, all-placed e (getD ss i 0) (kept .sources-below .below i l)));
       }
 
   record Left (v : ℕ) : Type 0 where
@@ -53,15 +49,15 @@ module _ (n : ℕ) (ss ts waiting order : List ℕ) (tail : ℕ) (kept : RulesKe
       waits (yes k) = k
       waits (no k) = let placed : p .rank v < tail = p .due-placed v (l .known) (omega arith) in omega (arith, l .no-place, p .placed .left-tail, kept .few-events)
 
-  before : (v : ℕ) → Left v → (i : ℕ) × (i < length ss) × (getD ts i 0 ≡ v) × Left (getD ss i 0)
-  before v l =
+  after : (v : ℕ) → Left v → (i : ℕ) × (i < length ss) × (getD ss i 0 ≡ v) × Left (getD ts i 0)
+  after v l =
       let (i, k, w) = counted-some (p .waits v (l .known)) (still-waits v l) in
-      (i, k, w .into, record { known = kept .sources-below .below i k; no-place = p .placed .no-gap (getD ss i 0) (omega (arith, w .later)) })
+      (i, k, w .out, record { known = kept .targets-below .below i (omega (arith, kept .targets-match)); no-place = p .placed .no-gap (getD ts i 0) (omega (arith, w .later)) })
 
   cycles : (tail ≡ n → ⊥) → (ds Ds : List ℤ) → HasCycle (graphOf n ss ts ds Ds)
   cycles e ds Ds =
       let (v, l, k) = counted-some (p .placed .left-counted) (omega (arith, p .placed .left-tail)) in
-      backward-closed-cycle (graphOf n ss ts ds Ds) Left (λ v l. l .known) before v (record { known = l; no-place = k })
+      forward-closed-cycle (graphOf n ss ts ds Ds) Left (λ v l. l .known) after v (record { known = l; no-place = k })
 
-  pub turn-ordered : Ordered n ss ts order (eqb tail n)
-  turn-ordered = record { ordered = λ e. (p .rank, orders (eqb-true tail n e)); cyclic = λ e. cycles (eqb-false tail n e) }
+  pub served-ordered : Ordered n ss ts order (eqb tail n)
+  served-ordered = record { ordered = λ e. (p .rank, orders (eqb-true tail n e)); cyclic = λ e. cycles (eqb-false tail n e) }
