@@ -23,9 +23,8 @@ use Rattle.paths.proofs.Caps.{path-cap}
 use Rattle.paths.proofs.PathPairs.{mostSum, pathPair-number}
 use Rattle.paths.proofs.Solved.{solved-separation, solved-overfull}
 use Rattle.processes.specs.declared.Event.{Event}
-use Rattle.processes.specs.Process.{occurrence}
+use Rattle.processes.specs.Process.{occurrence, ProcessGraph}
 use Rattle.processes.proofs.Occurrences.{occurrence-below, never-root}
-use Rattle.levels.specs.Started.{StartedGraph, Unfolds}
 use Rattle.levels.specs.Full.{fullUnfolding}
 use Rattle.levels.specs.Long.{LongAnswered}
 use Rattle.levels.specs.Parts.Sweep.{Whole, Fits}
@@ -33,6 +32,7 @@ use Rattle.levels.proofs.Unfolded.{full-unfolds}
 use Rattle.levels.proofs.Sound.{unfolded-sound}
 use Rattle.levels.proofs.Sweeps.{swept-fits}
 use Rattle.levels.proofs.Verdicts.{InputKept, long-overfull, long-answered}
+use Rattle.processes.specs.Unfolding.{Unfolds}
 
 -- ---- the root, in any sound graph
 
@@ -51,28 +51,28 @@ module _ {graph : Graph} (sound : SoundGraph graph) {s t : ℕ} {cap : ℕ → L
 
 -- ---- the answer
 
-module _ {g : StartedGraph} {K : ℕ} {s : Event} {ks : ℕ} {t : Event} {kt : ℕ} (kept : InputKept g K s ks t kt) where
+module _ {g : ProcessGraph} {K : ℕ} {s : Event} {ks : ℕ} {t : Event} {kt : ℕ} (kept : InputKept g K s ks t kt) where
   pub kept-unfolds : Unfolds g K (fullUnfolding g K)
   kept-unfolds = full-unfolds g K (kept .fit .each .marks)
 
   pub kept-sound : SoundGraph (fullUnfolding g K)
   kept-sound = unfolded-sound (kept .fit) kept-unfolds
 
-  pub source-event : occurrence (g .graph) ks s .0 < 1 + g .graph .events * K
-  source-event = occurrence-below (g .graph) K ks s (kept .source-there .is-event) (kept .source-there .is-copy)
+  pub source-event : occurrence g ks s .0 < 1 + g .events * K
+  source-event = occurrence-below g K ks s (kept .source-there .is-event) (kept .source-there .is-copy)
 
-  pub target-event : occurrence (g .graph) kt t .0 < 1 + g .graph .events * K
-  target-event = occurrence-below (g .graph) K kt t (kept .target-there .is-event) (kept .target-there .is-copy)
+  pub target-event : occurrence g kt t .0 < 1 + g .events * K
+  target-event = occurrence-below g K kt t (kept .target-there .is-event) (kept .target-there .is-copy)
 
-  pub source-other : 0 ≡ occurrence (g .graph) ks s .0 → ⊥
-  source-other e = never-root (g .graph) ks s (sym e)
+  pub source-other : 0 ≡ occurrence g ks s .0 → ⊥
+  source-other e = never-root g ks s (sym e)
 
-  pub target-other : 0 ≡ occurrence (g .graph) kt t .0 → ⊥
-  target-other e = never-root (g .graph) kt t (sym e)
+  pub target-other : 0 ≡ occurrence g kt t .0 → ⊥
+  target-other e = never-root g kt t (sym e)
 
   module _ {cap : ℕ → Limit} {full : ℕ → List Pair}
-      (solved : Solved (fullUnfolding g K) (occurrence (g .graph) ks s .0) (occurrence (g .graph) kt t .0) cap full) where
-    pub answer-overfull : (v : ℕ) → v < 1 + g .graph .events * K → 64 < length (full v) → LongAnswered g K s ks t kt 12 0 (pos 0)
+      (solved : Solved (fullUnfolding g K) (occurrence g ks s .0) (occurrence g kt t .0) cap full) where
+    pub answer-overfull : (v : ℕ) → v < 1 + g .events * K → 64 < length (full v) → LongAnswered g K s ks t kt 12 0 (pos 0)
     answer-overfull v l over = long-overfull kept (solved-overfull solved l over)
 
     pub answer-found : ((l : ℕ) → Fits g full 64 l Whole) → length (full 0) ≤ 64 → {m x : ℤ} → cap 0 ≡ number m → SetValue (full 0) m x

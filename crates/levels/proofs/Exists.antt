@@ -17,9 +17,8 @@ use Rattle.sets.proofs.Values.{set-value-exists}
 use Rattle.paths.specs.Parts.Solved.{Solved}
 use Rattle.paths.proofs.Solved.{solved-exists}
 use Rattle.processes.specs.declared.Event.{Event}
-use Rattle.processes.specs.Process.{occurrence}
+use Rattle.processes.specs.Process.{occurrence, ProcessGraph}
 use Rattle.processes.proofs.Occurrences.{occurrence-below}
-use Rattle.levels.specs.Started.{StartedGraph}
 use Rattle.levels.specs.Full.{fullUnfolding}
 use Rattle.levels.specs.Long.{LongAnswered}
 use Rattle.levels.specs.Parts.Sweep.{Whole, Fits}
@@ -43,22 +42,22 @@ value-of : (T : List Pair) (m : ℤ) → (T ≡ [] → ⊥) → ((q : Pair) → 
 value-of [] m some numbered = absurd (some refl)
 value-of (p ∷ T) m some numbered = set-value-exists p T m (λ q k. let (a, e) = numbered q k in l-number a e)
 
-module _ {g : StartedGraph} {K : ℕ} {s : Event} {ks : ℕ} {t : Event} {kt : ℕ} (kept : InputKept g K s ks t kt) where
+module _ {g : ProcessGraph} {K : ℕ} {s : Event} {ks : ℕ} {t : Event} {kt : ℕ} (kept : InputKept g K s ks t kt) where
   module _ {cap : ℕ → Limit} {full : ℕ → List Pair}
-      (solved : Solved (fullUnfolding g K) (occurrence (g .graph) ks s .0) (occurrence (g .graph) kt t .0) cap full) where
+      (solved : Solved (fullUnfolding g K) (occurrence g ks s .0) (occurrence g kt t .0) cap full) where
     -- sets from K on are empty
-    all-fit : ((v : ℕ) → v < 1 + g .graph .events * K → length (full v) ≤ 64) → (k : ℕ) → Fits g full 64 k Whole
+    all-fit : ((v : ℕ) → v < 1 + g .events * K → length (full v) ≤ 64) → (k : ℕ) → Fits g full 64 k Whole
     all-fit short k = record { each = λ u hu _. at u hu (decLt k K) }
       where
-        at : (u : Event) → u .0 < g .graph .events → Dec (k < K) → length (full (occurrence (g .graph) k u .0)) ≤ 64
-        at u hu (yes below) = short (occurrence (g .graph) k u .0) (occurrence-below (g .graph) K k u hu below)
+        at : (u : Event) → u .0 < g .events → Dec (k < K) → length (full (occurrence g k u .0)) ≤ 64
+        at u hu (yes below) = short (occurrence g k u .0) (occurrence-below g K k u hu below)
         at u hu (no n) =
             subst (λ (T : List Pair). length T ≤ 64)
-            (sym (past-set (kept .fit) (kept-unfolds kept) solved (target-event kept) (occurrence (g .graph) k u .0)
+            (sym (past-set (kept .fit) (kept-unfolds kept) solved (target-event kept) (occurrence g k u .0)
             (past-number (kept .fit) (kept-unfolds kept) k u (omega arith))))
             (omega arith)
 
-    answered : ((v : ℕ) × (v < 1 + g .graph .events * K) × (64 < length (full v))) ⊎ ((v : ℕ) → v < 1 + g .graph .events * K → length (full v) ≤ 64)
+    answered : ((v : ℕ) × (v < 1 + g .events * K) × (64 < length (full v))) ⊎ ((v : ℕ) → v < 1 + g .events * K → length (full v) ≤ 64)
         → (refusal : ℕ) × (place : ℕ) × (x : ℤ) × LongAnswered g K s ks t kt refusal place x
     answered (inl (v, l, over)) = (12, 0, pos 0, answer-overfull kept solved v l over)
     answered (inr short) =
@@ -68,5 +67,5 @@ module _ {g : StartedGraph} {K : ℕ} {s : Event} {ks : ℕ} {t : Event} {kt : �
 
   pub long-exists : (refusal : ℕ) × (place : ℕ) × (x : ℤ) × LongAnswered g K s ks t kt refusal place x
   long-exists =
-      let (cap, full, solved) = solved-exists (kept-sound kept) (occurrence (g .graph) ks s .0) (occurrence (g .graph) kt t .0) in
-      answered solved (search full 64 (1 + g .graph .events * K))
+      let (cap, full, solved) = solved-exists (kept-sound kept) (occurrence g ks s .0) (occurrence g kt t .0) in
+      answered solved (search full 64 (1 + g .events * K))

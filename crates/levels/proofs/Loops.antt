@@ -27,8 +27,7 @@ use Rattle.sets.specs.Limit.{Limit, unlimited, _≤ᴸ_}
 use Rattle.sets.specs.Pair.{Pair, compose, unit}
 use Rattle.sets.specs.Set.{_∈_}
 use Rattle.sets.proofs.Limits.{≤ᴸ-trans}
-use Rattle.processes.specs.Process.{templates}
-use Rattle.levels.specs.Started.{StartedGraph}
+use Rattle.processes.specs.Process.{templates, ProcessGraph}
 use Rattle.levels.specs.Parts.Turns.{Reached, LeastTemplate, Candidate, TemplateTurn}
 
 -- ---- the least
@@ -57,7 +56,7 @@ module _ {At : ℕ → Type 0} {f : ℕ → Limit} where
       by (inl e) = subst (Reached At f (suc r)) (sym e) (reached-later (h .reached))
       by (inr e) = inr (r, omega arith, a, sym e)
 
-  pub least-done : {g : StartedGraph} {c : Limit} → LeastBelow At f (templates (g .graph)) c → LeastTemplate g At f c
+  pub least-done : {g : ProcessGraph} {c : Limit} → LeastBelow At f (templates g) c → LeastTemplate g At f c
   least-done h = record { reached = h .reached; bound = h .bound }
 
 -- ---- the candidates
@@ -132,5 +131,5 @@ module _ {At : ℕ → Type 0} {Here : Type 0} {own : ℕ → Pair} {sets : ℕ 
       by p (inl m) = later own sets r p (h .only p m)
       by p (inr (q, m, e)) = inr (r, q, omega arith, a, m, e)
 
-  pub turn-done : {g : StartedGraph} {C : List Pair} → TurnBelow At Here own sets (templates (g .graph)) C → TemplateTurn g At Here own sets C
+  pub turn-done : {g : ProcessGraph} {C : List Pair} → TurnBelow At Here own sets (templates g) C → TemplateTurn g At Here own sets C
   turn-done h = record { here = h .here; on = h .on; only = h .only }

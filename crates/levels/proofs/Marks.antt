@@ -11,29 +11,28 @@ use Rattle.graphs.specs.Graph as rule
 use Rattle.graphs.specs.Graph.{Graph, rules}
 use Rattle.graphs.specs.Path.{Path, stay, step, steps}
 use Rattle.processes.specs.declared.Event.{Event}
-use Rattle.processes.specs.Process.{source, target}
+use Rattle.processes.specs.Process.{source, target, ProcessGraph}
 use Rattle.processes.specs.Ways.{MarkZeroWay, empty, along, templatesOn, OnMarkZeroCycle}
 use Rattle.processes.proofs.Occurrences.{event-same}
-use Rattle.levels.specs.Started.{StartedGraph}
 use Rattle.levels.specs.Parts.Marks.{MarkZeroRules}
 use Rattle.levels.specs.Parts.Sweep.{Ranked}
 
-module _ {g : StartedGraph} {h : Graph} (same : MarkZeroRules g h) where
-  pub way-path : (u v : Event) (w : MarkZeroWay (g .graph) u v) → (p : Path h (u .0) (v .0)) × (steps p ≡ templatesOn w)
+module _ {g : ProcessGraph} {h : Graph} (same : MarkZeroRules g h) where
+  pub way-path : (u v : Event) (w : MarkZeroWay g u v) → (p : Path h (u .0) (v .0)) × (steps p ≡ templatesOn w)
   way-path u v empty = (stay, refl)
   way-path u v (along {v = x} j l m from to w) =
       let (i, is-rule, source-is, target-is) = same .has-rule j l m in
       let (p, as-many) = way-path x v w in
       (step i is-rule (source-is ∙ ap (λ (e : Event). e .0) from) (target-is ∙ ap (λ (e : Event). e .0) to) p, ap suc as-many)
 
-  pub path-way : {x y : ℕ} (p : Path h x y) (u v : Event) → u .0 ≡ x → v .0 ≡ y → (w : MarkZeroWay (g .graph) u v) × (templatesOn w ≡ steps p)
-  path-way stay u v eu ev = subst (λ (x : Event). (w : MarkZeroWay (g .graph) u x) × (templatesOn w ≡ 0)) (event-same u v (eu ∙ sym ev)) (empty, refl)
+  pub path-way : {x y : ℕ} (p : Path h x y) (u v : Event) → u .0 ≡ x → v .0 ≡ y → (w : MarkZeroWay g u v) × (templatesOn w ≡ steps p)
+  path-way stay u v eu ev = subst (λ (x : Event). (w : MarkZeroWay g u x) × (templatesOn w ≡ 0)) (event-same u v (eu ∙ sym ev)) (empty, refl)
   path-way (step i is-rule leaves enters p) u v eu ev =
       let (j, l, m, source-is, target-is) = same .of-template i is-rule in
-      let (w, as-many) = path-way p (target (g .graph) j) v (sym target-is ∙ enters) ev in
-      (along j l m (event-same (source (g .graph) j) u (sym source-is ∙ leaves ∙ sym eu)) refl w, ap suc as-many)
+      let (w, as-many) = path-way p (target g j) v (sym target-is ∙ enters) ev in
+      (along j l m (event-same (source g j) u (sym source-is ∙ leaves ∙ sym eu)) refl w, ap suc as-many)
 
-  pub on-cycle-exactly : (v : Event) → OnMarkZeroCycle (g .graph) v ↔ ((p : Path h (v .0) (v .0)) × (0 < steps p))
+  pub on-cycle-exactly : (v : Event) → OnMarkZeroCycle g v ↔ ((p : Path h (v .0) (v .0)) × (0 < steps p))
   on-cycle-exactly v = (
     λ c. let (p, as-many) = way-path v v (c .0) in (p, let some = c .1 in omega (arith, as-many, some)),
     λ c. let (w, as-many) = path-way (c .0) v v refl refl in (w, let some = c .1 in omega (arith, as-many, some)),

@@ -25,8 +25,9 @@ use Rattle.paths.specs.Cap.{CapOf}
 use Rattle.paths.specs.Parts.Solved.{Solved}
 use Rattle.paths.proofs.Caps.{cap-m}
 use Rattle.paths.proofs.Sizes.{LimitWithin, PairWithin, m-within, closed-within}
-use Rattle.levels.specs.Started.{StartedGraph, Unfolds}
 use Rattle.levels.proofs.Sound.{Fit, unfolded-sound, unfolded-delays}
+use Rattle.processes.specs.Process.{ProcessGraph}
+use Rattle.processes.specs.Unfolding.{Unfolds}
 
 pub rounds-few : (p K : ℕ) → p ≤ 32 → K ≤ 100000 → 1000000 * (p * K) ≤ 3200000000000
 rounds-few p K few copies = omega (arith, mul-le-mul-left p copies, mul-le-mul-right 100000 few)
@@ -34,24 +35,24 @@ rounds-few p K few copies = omega (arith, mul-le-mul-left p copies, mul-le-mul-r
 pub near-of : {b : ℕ} {c : Limit} → b ≤ 4000000000000000000 → LimitWithin b c → Near c
 near-of small h = record { near = λ a e. within-wider small (h .within a e) }
 
-module _ {g : StartedGraph} {K : ℕ} {graph : Graph} (fit : Fit g) (unfolds : Unfolds g K graph) (few : g .graph .events ≤ 32) (copies : K ≤ 100000)
+module _ {g : ProcessGraph} {K : ℕ} {graph : Graph} (fit : Fit g) (unfolds : Unfolds g K graph) (few : g .events ≤ 32) (copies : K ≤ 100000)
     {s t : ℕ} {cap : ℕ → Limit} {full : ℕ → List Pair} (solved : Solved graph s t cap full) (hs : s < graph .events) where
-  events-few : graph .events ≤ suc (g .graph .events * K)
+  events-few : graph .events ≤ suc (g .events * K)
   events-few = omega (arith, unfolds .event-count)
 
   pub cap-size : (v : ℕ) → LimitWithin 3200000000000 (cap v)
   cap-size v =
       record {
         within = λ a e.
-            within-wider (rounds-few (g .graph .events) K few copies)
+            within-wider (rounds-few (g .events) K few copies)
             (m-within (unfolded-sound fit unfolds) events-few (unfolded-delays fit unfolds) hs (cap-m (subst (CapOf graph s v) e (solved .caps v))));
       }
 
   module _ (ht : t < graph .events) where
     pub set-size : (v : ℕ) (q : Pair) → q ∈ full v → PairWithin 3200000000000 6400000000000 q
     set-size v q m =
-        let small : 1000000 * (g .graph .events * K) ≤ 3200000000000 = rounds-few (g .graph .events) K few copies in
-        let h : PairWithin (1000000 * (g .graph .events * K)) (1000000 * (g .graph .events * K) + 1000000 * (g .graph .events * K)) q =
+        let small : 1000000 * (g .events * K) ≤ 3200000000000 = rounds-few (g .events) K few copies in
+        let h : PairWithin (1000000 * (g .events * K)) (1000000 * (g .events * K) + 1000000 * (g .events * K)) q =
         closed-within (unfolded-sound fit unfolds) events-few (unfolded-delays fit unfolds) hs ht (record { each = λ v l. solved .caps v })
         (solved .sets .each v .closes) q m in
         record {

@@ -19,52 +19,52 @@ use Rattle.graphs.specs.Limits.{EndsKept, DelaysKept, SoundGraph}
 use Rattle.graphs.proofs.Paths.{along}
 use Rattle.graphs.proofs.Rank.{rank-of}
 use Rattle.refusals.specs.Faults.{InsideDelays}
-use Rattle.processes.specs.Process.{templates, source, target, mark, occurrence, Node, number}
+use Rattle.processes.specs.Process.{templates, source, target, mark, occurrence, Node, number, ProcessGraph, start-least, start-most, Instance, together, onward, start}
 use Rattle.processes.specs.Ways.{MarkZeroCycle}
 use Rattle.processes.proofs.Numbers.{place-below}
 use Rattle.processes.proofs.Occurrences.{OneOccurrence, occurrence-below, occurrence-found}
 use Rattle.processes.proofs.Refusals.{TemplatesKept}
-use Rattle.levels.specs.Started.{StartedGraph, startLeast, startMost, Instance, together, onward, start, RuleAt, Unfolds}
 use Rattle.levels.proofs.Unfolded.{rule-at-place}
 use Rattle.levels.proofs.Folds.{place-of, instance-enters, cycle-folds}
+use Rattle.processes.specs.Unfolding.{RuleAt, Unfolds}
 
-pub record Fit (g : StartedGraph) : Type 0 where
-  pub each : TemplatesKept (g .graph)
-  pub starts : (j : ℕ) → j < templates (g .graph) → mark (g .graph) j ≡ 1 → InsideDelays (startLeast g j) (startMost g j)
-  pub no-cycle : MarkZeroCycle (g .graph) → ⊥
-  pub targeted : (v : ℕ) → v < g .graph .events → (j : ℕ) × (j < templates (g .graph)) × (target (g .graph) j .0 ≡ v)
+pub record Fit (g : ProcessGraph) : Type 0 where
+  pub each : TemplatesKept g
+  pub starts : (j : ℕ) → j < templates g → mark g j ≡ 1 → InsideDelays (start-least g j) (start-most g j)
+  pub no-cycle : MarkZeroCycle g → ⊥
+  pub targeted : (v : ℕ) → v < g .events → (j : ℕ) × (j < templates g) × (target g j .0 ≡ v)
 
 record InstanceSized (n : ℕ) (u v : Node) (d D : ℤ) : Type 0 where
   pub from-known : number u < n
   pub to-known : number v < n
   pub delays : InsideDelays d D
 
-instance-sized : {g : StartedGraph} {K k j : ℕ} {u v : Node} {d D : ℤ} → Fit g → k < K → j < templates (g .graph) → Instance g k j u v d D
-    → InstanceSized (1 + g .graph .events * K) u v d D
+instance-sized : {g : ProcessGraph} {K k j : ℕ} {u v : Node} {d D : ℤ} → Fit g → k < K → j < templates g → Instance g k j u v d D
+    → InstanceSized (1 + g .events * K) u v d D
 instance-sized {g} {K} {k} {j} fit below l (together m) =
     let e = fit .each .ends j l in
     let h = fit .each .delays j l in
     record {
-      from-known = occurrence-below (g .graph) K k (source (g .graph) j) (e .source-known) below;
-      to-known = occurrence-below (g .graph) K k (target (g .graph) j) (e .target-known) below;
+      from-known = occurrence-below g K k (source g j) (e .source-known) below;
+      to-known = occurrence-below g K k (target g j) (e .target-known) below;
       delays = record { least-within = h .least-within; most-within = h .most-within; ordered = h .ordered };
     }
 instance-sized {g} {K} {k} {j} fit below l (onward b m is-next) =
     let e = fit .each .ends j l in
     let h = fit .each .delays j l in
     record {
-      from-known = occurrence-below (g .graph) K b (source (g .graph) j) (e .source-known) (omega arith);
-      to-known = occurrence-below (g .graph) K k (target (g .graph) j) (e .target-known) below;
+      from-known = occurrence-below g K b (source g j) (e .source-known) (omega arith);
+      to-known = occurrence-below g K k (target g j) (e .target-known) below;
       delays = record { least-within = h .least-within; most-within = h .most-within; ordered = h .ordered };
     }
 instance-sized {g} {K} {k} {j} fit below l (start m first) =
     record {
       from-known = omega arith;
-      to-known = occurrence-below (g .graph) K k (target (g .graph) j) (fit .each .ends j l .target-known) below;
+      to-known = occurrence-below g K k (target g j) (fit .each .ends j l .target-known) below;
       delays = fit .starts j l m;
     }
 
-module _ {g : StartedGraph} {K : ℕ} {graph : Graph} (fit : Fit g) (unfolds : Unfolds g K graph) where
+module _ {g : ProcessGraph} {K : ℕ} {graph : Graph} (fit : Fit g) (unfolds : Unfolds g K graph) where
   rule-sized : (i : ℕ) → i < rules graph → (EndsKept graph i) × (DelaysKept 1000000 graph i)
   rule-sized i l =
       let p = place-of unfolds (fit .each .ends) i l in
@@ -84,25 +84,25 @@ module _ {g : StartedGraph} {K : ℕ} {graph : Graph} (fit : Fit g) (unfolds : U
   unfolded-delays i l = rule-sized i l .1
 
   -- template j at k leads to occurrence k of its target
-  pub template-enters : (k j : ℕ) → k < K → j < templates (g .graph)
-      → rule.target graph (k * templates (g .graph) + j) ≡ occurrence (g .graph) k (target (g .graph) j) .0
+  pub template-enters : (k j : ℕ) → k < K → j < templates g
+      → rule.target graph (k * templates g + j) ≡ occurrence g k (target g j) .0
   template-enters k j below h =
-      let r : RuleAt g k j graph (k * templates (g .graph) + j) = unfolds .each k j below h in
+      let r : RuleAt g k j graph (k * templates g + j) = unfolds .each k j below h in
       r .to-number ∙ ap number (instance-enters (r .instance))
 
-  pub template-rule : (k j : ℕ) → k < K → j < templates (g .graph) → k * templates (g .graph) + j < rules graph
-  template-rule k j below h = omega (arith, place-below (templates (g .graph)) K k j below h, unfolds .sources-count)
+  pub template-rule : (k j : ℕ) → k < K → j < templates g → k * templates g + j < rules graph
+  template-rule k j below h = omega (arith, place-below (templates g) K k j below h, unfolds .sources-count)
 
   -- a rule into each event but the root
   rule-into : (v : ℕ) → v < graph .events → (v ≡ 0 → ⊥) → (i : ℕ) × (i < rules graph) × (rule.target graph i ≡ v)
-  rule-into v l other = by (occurrence-found (g .graph) K v (omega arith) (omega (arith, unfolds .event-count)))
+  rule-into v l other = by (occurrence-found g K v (omega arith) (omega (arith, unfolds .event-count)))
     where
-      by : OneOccurrence (g .graph) K v → (i : ℕ) × (i < rules graph) × (rule.target graph i ≡ v)
+      by : OneOccurrence g K v → (i : ℕ) × (i < rules graph) × (rule.target graph i ≡ v)
       by o =
           let (j, h, to) = fit .targeted (o .event .0) (o .is-event) in (
-            o .k * templates (g .graph) + j,
+            o .k * templates g + j,
             template-rule (o .k) j (o .k-below) h,
-            template-enters (o .k) j (o .k-below) h ∙ ap (λ (x : ℕ). 1 + o .k * g .graph .events + x) to ∙ o .its-number,
+            template-enters (o .k) j (o .k-below) h ∙ ap (λ (x : ℕ). 1 + o .k * g .events + x) to ∙ o .its-number,
           )
 
   module _ (rank : ℕ → ℕ) (higher : (i : ℕ) → i < rules graph → rank (rule.source graph i) < rank (rule.target graph i)) where

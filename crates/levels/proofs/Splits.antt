@@ -10,22 +10,21 @@ use Rattle.sets.specs.Limit.{Limit, number}
 use Rattle.sets.specs.Pair.{Pair, pair, compose, unit}
 use Rattle.sets.proofs.Pairs.{compose-assoc, unit-compose}
 use Rattle.processes.specs.declared.Event.{Event}
-use Rattle.processes.specs.Process.{target, most}
-use Rattle.levels.specs.Started.{StartedGraph}
+use Rattle.processes.specs.Process.{target, most, ProcessGraph}
 use Rattle.levels.specs.Parts.Ways.{Way, nothing, within, across, wayPair}
 
 abbrev pub later : (ℕ → Event → Limit) → ℕ → ℕ → Event → Limit
 later c e d x = c (d + e) x
 
-module _ (g : StartedGraph) (c : ℕ → Event → Limit) where
+module _ (g : ProcessGraph) (c : ℕ → Event → Limit) where
   -- one template more in front: its cap is that at the crossings that are left
   in-front : (d d₁ d₂ j : ℕ) → d ≡ d₁ + d₂ → (p q r : Pair) → p ≡ compose q r
-      → compose (pair (number (most (g .graph) j)) (c d (target (g .graph) j))) p
-      ≡ compose (compose (pair (number (most (g .graph) j)) (later c d₂ d₁ (target (g .graph) j))) q) r
+      → compose (pair (number (most g j)) (c d (target g j))) p
+      ≡ compose (compose (pair (number (most g j)) (later c d₂ d₁ (target g j))) q) r
   in-front d d₁ d₂ j e p q r h =
-      ap (λ (x : ℕ). compose (pair (number (most (g .graph) j)) (c x (target (g .graph) j))) p) e
-      ∙ ap (compose (pair (number (most (g .graph) j)) (later c d₂ d₁ (target (g .graph) j)))) h
-      ∙ sym (compose-assoc (pair (number (most (g .graph) j)) (later c d₂ d₁ (target (g .graph) j))) q r)
+      ap (λ (x : ℕ). compose (pair (number (most g j)) (c x (target g j))) p) e
+      ∙ ap (compose (pair (number (most g j)) (later c d₂ d₁ (target g j)))) h
+      ∙ sym (compose-assoc (pair (number (most g j)) (later c d₂ d₁ (target g j))) q r)
 
   pub way-join : {d₁ d₂ : ℕ} {u x v : Event} (a : Way g d₁ u x) (b : Way g d₂ x v) (d : ℕ) → d ≡ d₁ + d₂
       → (w : Way g d u v) × (wayPair c w ≡ compose (wayPair (later c d₂) a) (wayPair c b))

@@ -23,11 +23,11 @@ use Rattle.sets.specs.declared.PrunedSet.{PrunedSet}
 use Rattle.sets.proofs.Holding.{pairs-back}
 use Rattle.paths.specs.Parts.Solved.{Solved}
 use Rattle.processes.specs.declared.Event.{Event}
-use Rattle.processes.specs.Process.{occurrence}
-use Rattle.levels.specs.Started.{StartedGraph, Unfolds}
+use Rattle.processes.specs.Process.{occurrence, ProcessGraph}
 use Rattle.levels.specs.Parts.Sweep.{capsOf, setsOf, Ranked, Whole, LevelHolds, Swept}
 use Rattle.levels.proofs.Sound.{Fit}
 use Rattle.levels.proofs.Sweeps.{levels-above, swept-more}
+use Rattle.processes.specs.Unfolding.{Unfolds}
 
 -- ---- one store
 
@@ -56,8 +56,8 @@ nothing-caps n u l = ap (limit (getD (replicate n (pos 0)) u (pos 0))) (getD-rep
 pub nothing-sets : (n u : ℕ) → u < n → setsOf (replicate n (held passNothing)) u ≡ []
 nothing-sets n u l = ap pairsOf (getD-replicate n u (held passNothing) (held passNothing) l) ∙ pairs-back passNothing
 
-pub level-same : {g : StartedGraph} {cap : ℕ → Limit} {full : ℕ → List Pair} {k : ℕ} {caps caps′ : ℕ → Limit} {sets sets′ : ℕ → List Pair} {Done : ℕ → Type 0}
-    → ((u : ℕ) → u < g .graph .events → caps′ u ≡ caps u) → ((u : ℕ) → u < g .graph .events → sets′ u ≡ sets u)
+pub level-same : {g : ProcessGraph} {cap : ℕ → Limit} {full : ℕ → List Pair} {k : ℕ} {caps caps′ : ℕ → Limit} {sets sets′ : ℕ → List Pair} {Done : ℕ → Type 0}
+    → ((u : ℕ) → u < g .events → caps′ u ≡ caps u) → ((u : ℕ) → u < g .events → sets′ u ≡ sets u)
     → LevelHolds g cap full k caps sets Done → LevelHolds g cap full k caps′ sets′ Done
 level-same caps-same sets-same h =
     record {
@@ -67,10 +67,10 @@ level-same caps-same sets-same h =
 
 -- ---- the sweep
 
-module _ {g : StartedGraph} {K : ℕ} {graph : Graph} (fit : Fit g) (unfolds : Unfolds g K graph)
+module _ {g : ProcessGraph} {K : ℕ} {graph : Graph} (fit : Fit g) (unfolds : Unfolds g K graph)
     {s t : ℕ} {cap : ℕ → Limit} {full : ℕ → List Pair} (solved : Solved graph s t cap full) where
-  pub levels-begun : (n : ℕ) → g .graph .events ≤ n → (ks kt : ℕ) (su tu : Event) → su .0 < g .graph .events → tu .0 < g .graph .events
-      → s ≡ occurrence (g .graph) ks su .0 → t ≡ occurrence (g .graph) kt tu .0 → (k : ℕ) → ks < k → kt < k
+  pub levels-begun : (n : ℕ) → g .events ≤ n → (ks kt : ℕ) (su tu : Event) → su .0 < g .events → tu .0 < g .events
+      → s ≡ occurrence g ks su .0 → t ≡ occurrence g kt tu .0 → (k : ℕ) → ks < k → kt < k
       → LevelHolds g cap full k (capsOf (replicate n (pos 0)) (replicate n true)) (setsOf (replicate n (held passNothing))) Whole
   levels-begun n room ks kt su tu hs ht s-is t-is k s-before t-before =
       level-same
@@ -81,10 +81,10 @@ module _ {g : StartedGraph} {K : ℕ} {graph : Graph} (fit : Fit g) (unfolds : U
   module _ {rank : ℕ → ℕ} {room k r : ℕ} {above-caps : ℕ → Limit} {above-sets : ℕ → List Pair} (ranked : Ranked g rank)
       (ms : List ℤ) (fs : List Bool) (ss : List PrunedSet)
       (swept : Swept g cap full rank room k (suc r) (capsOf ms fs) (setsOf ss) above-caps above-sets)
-      (u : Event) (hu : u .0 < g .graph .events) (its-turn : rank (u .0) ≡ r) where
-    pub swept-stored : ((v : ℕ) → v < g .graph .events → rank v ≡ r → v ≡ u .0) → u .0 < length ms → u .0 < length fs → u .0 < length ss
-        → (a : ℤ) (f : Bool) (found : PrunedSet) → limit a f ≡ cap (occurrence (g .graph) k u .0) → pairsOf found ≡ full (occurrence (g .graph) k u .0)
-        → length (full (occurrence (g .graph) k u .0)) ≤ room
+      (u : Event) (hu : u .0 < g .events) (its-turn : rank (u .0) ≡ r) where
+    pub swept-stored : ((v : ℕ) → v < g .events → rank v ≡ r → v ≡ u .0) → u .0 < length ms → u .0 < length fs → u .0 < length ss
+        → (a : ℤ) (f : Bool) (found : PrunedSet) → limit a f ≡ cap (occurrence g k u .0) → pairsOf found ≡ full (occurrence g k u .0)
+        → length (full (occurrence g k u .0)) ≤ room
         → Swept g cap full rank room k r (capsOf (set ms (u .0) a) (set fs (u .0) f)) (setsOf (set ss (u .0) found)) above-caps above-sets
     swept-stored alone m-room f-room s-room a f found cap-is set-is short =
         swept-more fit unfolds solved ranked swept u hu its-turn alone

@@ -26,12 +26,12 @@ use Rattle.paths.specs.Parts.Solved.{Solved}
 use Rattle.paths.proofs.Caps.{cap-at-s, cap-ahead}
 use Rattle.paths.proofs.Solved.{outside-path, cap-found, turn-found, no-path-cap, no-path-set}
 use Rattle.processes.specs.declared.Event.{Event}
-use Rattle.processes.specs.Process.{templates, source, least, most, mark, occurrence}
-use Rattle.levels.specs.Started.{StartedGraph, startLeast, startMost, Unfolds}
+use Rattle.processes.specs.Process.{templates, source, least, most, mark, occurrence, ProcessGraph, start-least, start-most}
 use Rattle.levels.specs.Parts.Turns.{ahead, startAhead, Reached, LeastTemplate, Candidate, TemplateTurn}
 use Rattle.levels.proofs.Sound.{Fit, unfolded-ends, unfolded-sound}
 use Rattle.levels.proofs.Folds.{no-path-back}
 use Rattle.levels.proofs.Outgoing.{OfTemplate, Given, ByTemplates, occurrence-rules, root-rules}
+use Rattle.processes.specs.Unfolding.{Unfolds}
 
 -- two nodes and two delays that are one give one cap ahead, and one pair
 caps-same : (cap : ℕ → Limit) {x y : ℕ} {d e : ℤ} → x ≡ y → d ≡ e → cap x +ᴸ number (negℤ d) ≡ cap y +ᴸ number (negℤ e)
@@ -40,7 +40,7 @@ caps-same cap {y = y} {d = d} same delay = ap (λ (v : ℕ). cap v +ᴸ number (
 pairs-same : (cap : ℕ → Limit) {x y : ℕ} {d e : ℤ} → x ≡ y → d ≡ e → pair (number d) (cap x) ≡ pair (number e) (cap y)
 pairs-same cap {y = y} {d = d} same delay = ap (λ (v : ℕ). pair (number d) (cap v)) same ∙ ap (λ (z : ℤ). pair (number z) (cap y)) delay
 
-module _ {g : StartedGraph} {K : ℕ} {graph : Graph} (fit : Fit g) (unfolds : Unfolds g K graph)
+module _ {g : ProcessGraph} {K : ℕ} {graph : Graph} (fit : Fit g) (unfolds : Unfolds g K graph)
     {s t : ℕ} {cap : ℕ → Limit} {full : ℕ → List Pair} (solved : Solved graph s t cap full) where
   pub past-cap : s < graph .events → (v : ℕ) → graph .events ≤ v → cap v ≡ unlimited
   past-cap hs v outside = no-path-cap solved (outside-path (unfolded-ends fit unfolds) outside (λ e. omega (arith, hs, e, outside)))
@@ -48,15 +48,15 @@ module _ {g : StartedGraph} {K : ℕ} {graph : Graph} (fit : Fit g) (unfolds : U
   pub past-set : t < graph .events → (v : ℕ) → graph .events ≤ v → full v ≡ []
   past-set ht v outside = no-path-set solved (outside-path (unfolded-ends fit unfolds) outside (λ e. omega (arith, ht, e, outside)))
 
-  pub level-cap : (ks : ℕ) (v : Event) → v .0 < g .graph .events → s ≡ occurrence (g .graph) ks v .0 → (k : ℕ) (u : Event) → u .0 < g .graph .events → ks < k
-      → cap (occurrence (g .graph) k u .0) ≡ unlimited
+  pub level-cap : (ks : ℕ) (v : Event) → v .0 < g .events → s ≡ occurrence g ks v .0 → (k : ℕ) (u : Event) → u .0 < g .events → ks < k
+      → cap (occurrence g k u .0) ≡ unlimited
   level-cap ks v hv is k u hu later =
-      no-path-cap solved (λ p. no-path-back unfolds (fit .each .ends) hu hv later (subst (λ (x : ℕ). Path graph (occurrence (g .graph) k u .0) x) is p))
+      no-path-cap solved (λ p. no-path-back unfolds (fit .each .ends) hu hv later (subst (λ (x : ℕ). Path graph (occurrence g k u .0) x) is p))
 
-  pub level-set : (kt : ℕ) (v : Event) → v .0 < g .graph .events → t ≡ occurrence (g .graph) kt v .0 → (k : ℕ) (u : Event) → u .0 < g .graph .events → kt < k
-      → full (occurrence (g .graph) k u .0) ≡ []
+  pub level-set : (kt : ℕ) (v : Event) → v .0 < g .events → t ≡ occurrence g kt v .0 → (k : ℕ) (u : Event) → u .0 < g .events → kt < k
+      → full (occurrence g k u .0) ≡ []
   level-set kt v hv is k u hu later =
-      no-path-set solved (λ p. no-path-back unfolds (fit .each .ends) hu hv later (subst (λ (x : ℕ). Path graph (occurrence (g .graph) k u .0) x) is p))
+      no-path-set solved (λ p. no-path-back unfolds (fit .each .ends) hu hv later (subst (λ (x : ℕ). Path graph (occurrence g k u .0) x) is p))
 
   pub own-cap : {v : ℕ} → v ≡ s → number (pos 0) ≡ cap v
   own-cap same = cap-found solved (cap-at-s (unfolded-sound fit unfolds .acyclic) same)
@@ -77,7 +77,7 @@ module _ {g : StartedGraph} {K : ℕ} {graph : Graph} (fit : Fit g) (unfolds : U
         ByRule : Type 0
         ByRule = Reached (λ i. rule.source graph i ≡ v) (λ i. cap (rule.target graph i) +ᴸ number (negℤ (rule.least graph i))) (rules graph) c
 
-        reaching : Reached From (λ j. cap (to j) +ᴸ number (negℤ (low j))) (templates (g .graph)) c → ByRule
+        reaching : Reached From (λ j. cap (to j) +ᴸ number (negℤ (low j))) (templates g) c → ByRule
         reaching (inl e) = inl e
         reaching (inr (j, l, from, e)) = on (by-templates .back j l from)
           where
@@ -95,7 +95,7 @@ module _ {g : StartedGraph} {K : ℕ} {graph : Graph} (fit : Fit g) (unfolds : U
             (turn .on j l from q (subst (λ (x : ℕ). q ∈ full x) (is .enters) m))
 
         reaching : (r : Pair)
-            → Candidate From (v ≡ t) (λ j. pair (number (high j)) (cap (to j))) (λ j. full (to j)) (templates (g .graph)) r
+            → Candidate From (v ≡ t) (λ j. pair (number (high j)) (cap (to j))) (λ j. full (to j)) (templates g) r
             → RuleCandidate graph cap t v (λ i. full (rule.target graph i)) (rules graph) r
         reaching r (inl h) = inl h
         reaching r (inr (j, q, l, from, m, e)) = on (by-templates .back j l from)
@@ -112,24 +112,24 @@ module _ {g : StartedGraph} {K : ℕ} {graph : Graph} (fit : Fit g) (unfolds : U
 
   -- ---- an occurrence, and the root
 
-  module _ (k : ℕ) (u : Event) (hu : u .0 < g .graph .events) where
-    pub occurrence-cap : s < graph .events → (occurrence (g .graph) k u .0 ≡ s → ⊥) → (c : Limit)
-        → LeastTemplate g (λ j. source (g .graph) j ≡ u) (λ j. cap (ahead g k j) +ᴸ number (negℤ (least (g .graph) j))) c
-        → c ≡ cap (occurrence (g .graph) k u .0)
+  module _ (k : ℕ) (u : Event) (hu : u .0 < g .events) where
+    pub occurrence-cap : s < graph .events → (occurrence g k u .0 ≡ s → ⊥) → (c : Limit)
+        → LeastTemplate g (λ j. source g j ≡ u) (λ j. cap (ahead g k j) +ᴸ number (negℤ (least g j))) c
+        → c ≡ cap (occurrence g k u .0)
     occurrence-cap = node-cap (occurrence-rules fit unfolds k u hu)
 
     pub occurrence-set : t < graph .events → {C : List Pair}
-        → TemplateTurn g (λ j. source (g .graph) j ≡ u) (occurrence (g .graph) k u .0 ≡ t)
-        (λ j. pair (number (most (g .graph) j)) (cap (ahead g k j))) (λ j. full (ahead g k j)) C
-        → Covers C (PathPairs graph cap t (occurrence (g .graph) k u .0)) × ((T : List Pair) → Prunes C T → T ≡ full (occurrence (g .graph) k u .0))
+        → TemplateTurn g (λ j. source g j ≡ u) (occurrence g k u .0 ≡ t)
+        (λ j. pair (number (most g j)) (cap (ahead g k j))) (λ j. full (ahead g k j)) C
+        → Covers C (PathPairs graph cap t (occurrence g k u .0)) × ((T : List Pair) → Prunes C T → T ≡ full (occurrence g k u .0))
     occurrence-set ht turn = node-set (occurrence-rules fit unfolds k u hu) ht turn
 
   module _ (some : 0 < K) where
     pub root-cap : s < graph .events → (0 ≡ s → ⊥) → (c : Limit)
-        → LeastTemplate g (λ j. mark (g .graph) j ≡ 1) (λ j. cap (startAhead g j) +ᴸ number (negℤ (startLeast g j))) c → c ≡ cap 0
+        → LeastTemplate g (λ j. mark g j ≡ 1) (λ j. cap (startAhead g j) +ᴸ number (negℤ (start-least g j))) c → c ≡ cap 0
     root-cap = node-cap (root-rules fit unfolds some)
 
     pub root-set : t < graph .events → {C : List Pair}
-        → TemplateTurn g (λ j. mark (g .graph) j ≡ 1) (0 ≡ t) (λ j. pair (number (startMost g j)) (cap (startAhead g j))) (λ j. full (startAhead g j)) C
+        → TemplateTurn g (λ j. mark g j ≡ 1) (0 ≡ t) (λ j. pair (number (start-most g j)) (cap (startAhead g j))) (λ j. full (startAhead g j)) C
         → Covers C (PathPairs graph cap t 0) × ((T : List Pair) → Prunes C T → T ≡ full 0)
     root-set ht turn = node-set (root-rules fit unfolds some) ht turn

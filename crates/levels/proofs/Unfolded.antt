@@ -17,10 +17,10 @@ use lib.Seq.{ext-getD}
 use Rattle.graphs.specs.Graph as rule
 use Rattle.graphs.specs.Graph.{Graph}
 use Rattle.processes.specs.Parts.Checks.{MarkKept}
-use Rattle.processes.specs.Process.{templates, source, target, least, most, mark, occurrence, Node, root, at, number}
+use Rattle.processes.specs.Process.{templates, source, target, least, most, mark, occurrence, Node, root, at, number, ProcessGraph, start-least, start-most, Instance, together, onward, start}
 use Rattle.processes.proofs.Numbers.{places-apart, place-below, Place, place-found}
-use Rattle.levels.specs.Started.{StartedGraph, startLeast, startMost, Instance, together, onward, start, RuleAt, Unfolds}
 use Rattle.levels.specs.Full.{listed, sourceAt, delayAt, sourceOf, targetOf, leastOf, mostOf, fullUnfolding}
+use Rattle.processes.specs.Unfolding.{RuleAt, Unfolds}
 
 -- ---- lists
 
@@ -41,7 +41,7 @@ row-found T k j l =
 -- ---- the graph
 
 -- a node and delays that a template with mark m gives at k, by cases
-record Entry (g : StartedGraph) (k j s t : ℕ) (d D : ℤ) : Type 0 where
+record Entry (g : ProcessGraph) (k j s t : ℕ) (d D : ℤ) : Type 0 where
   from : Node
   to : Node
   from-number : s ≡ number from
@@ -52,17 +52,17 @@ not-zero : (m : ℕ) → (suc m ≡ 0) ⊎ (suc m ≡ 1) → suc m ≡ 1
 not-zero m (inl e) = absurd (let none : ⊥ = omega arith in none)
 not-zero m (inr e) = e
 
-module _ (g : StartedGraph) (j : ℕ) where
-  entry-at : (m k : ℕ) → mark (g .graph) j ≡ m → (m ≡ 0) ⊎ (m ≡ 1)
+module _ (g : ProcessGraph) (j : ℕ) where
+  entry-at : (m k : ℕ) → mark g j ≡ m → (m ≡ 0) ⊎ (m ≡ 1)
       → Entry g k j
-      (sourceAt (g .graph .events) m k (source (g .graph) j .0))
-      (occurrence (g .graph) k (target (g .graph) j) .0)
-      (delayAt m k (startLeast g j) (least (g .graph) j))
-      (delayAt m k (startMost g j) (most (g .graph) j))
+      (sourceAt (g .events) m k (source g j .0))
+      (occurrence g k (target g j) .0)
+      (delayAt m k (start-least g j) (least g j))
+      (delayAt m k (start-most g j) (most g j))
   entry-at zero k e which =
       record {
-        from = at (occurrence (g .graph) k (source (g .graph) j));
-        to = at (occurrence (g .graph) k (target (g .graph) j));
+        from = at (occurrence g k (source g j));
+        to = at (occurrence g k (target g j));
         from-number = refl;
         to-number = refl;
         instance = together e;
@@ -70,28 +70,28 @@ module _ (g : StartedGraph) (j : ℕ) where
   entry-at (suc m) zero e which =
       record {
         from = root;
-        to = at (occurrence (g .graph) 0 (target (g .graph) j));
+        to = at (occurrence g 0 (target g j));
         from-number = refl;
         to-number = refl;
         instance = start (e ∙ not-zero m which) refl;
       }
   entry-at (suc m) (suc k) e which =
       record {
-        from = at (occurrence (g .graph) k (source (g .graph) j));
-        to = at (occurrence (g .graph) (suc k) (target (g .graph) j));
+        from = at (occurrence g k (source g j));
+        to = at (occurrence g (suc k) (target g j));
         from-number = refl;
         to-number = refl;
         instance = onward k (e ∙ not-zero m which) refl;
       }
 
-module _ (g : StartedGraph) (K : ℕ) (marks : (j : ℕ) → j < templates (g .graph) → MarkKept (g .graph .marks) j) where
+module _ (g : ProcessGraph) (K : ℕ) (marks : (j : ℕ) → j < templates g → MarkKept (g .marks) j) where
   -- the entries of rule i, in its row and at its place there
-  rule-found : (i : ℕ) → i < templates (g .graph) * K → i % templates (g .graph) < templates (g .graph)
-      → RuleAt g (i / templates (g .graph)) (i % templates (g .graph)) (fullUnfolding g K) i
+  rule-found : (i : ℕ) → i < templates g * K → i % templates g < templates g
+      → RuleAt g (i / templates g) (i % templates g) (fullUnfolding g K) i
   rule-found i l below =
-      let T : ℕ = templates (g .graph) in
+      let T : ℕ = templates g in
       let e : Entry g (i / T) (i % T) (sourceOf g i) (targetOf g i) (leastOf g i) (mostOf g i) =
-      entry-at g (i % T) (mark (g .graph) (i % T)) (i / T) refl (marks (i % T) below) in
+      entry-at g (i % T) (mark g (i % T)) (i / T) refl (marks (i % T) below) in
       let least-at : rule.least (fullUnfolding g K) i ≡ leastOf g i = listed-at (T * K) i (leastOf g) (pos 0) l in
       let most-at : rule.most (fullUnfolding g K) i ≡ mostOf g i = listed-at (T * K) i (mostOf g) (pos 0) l in
       record {
@@ -106,7 +106,7 @@ module _ (g : StartedGraph) (K : ℕ) (marks : (j : ℕ) → j < templates (g .g
 
   pub full-unfolds : Unfolds g K (fullUnfolding g K)
   full-unfolds =
-      let T : ℕ = templates (g .graph) in
+      let T : ℕ = templates g in
       record {
         event-count = refl;
         sources-count = listed-length (T * K) (sourceOf g);
@@ -128,7 +128,7 @@ pub record SameRule (u u′ v v′ : Node) (d d′ D D′ : ℤ) : Type 0 where
   pub least-delay : d ≡ d′
   pub most-delay : D ≡ D′
 
-pub instance-unique : {g : StartedGraph} {k j : ℕ} {u u′ v v′ : Node} {d d′ D D′ : ℤ}
+pub instance-unique : {g : ProcessGraph} {k j : ℕ} {u u′ v v′ : Node} {d d′ D D′ : ℤ}
     → Instance g k j u v d D → Instance g k j u′ v′ d′ D′ → SameRule u u′ v v′ d d′ D D′
 instance-unique (together m) (together m′) = record { from = refl; to = refl; least-delay = refl; most-delay = refl }
 instance-unique (together m) (onward b m′ e) = absurd (let no : ⊥ = omega arith in no)
@@ -136,27 +136,27 @@ instance-unique (together m) (start m′ e) = absurd (let no : ⊥ = omega arith
 instance-unique (onward b m e) (together m′) = absurd (let no : ⊥ = omega arith in no)
 instance-unique {g} {k} {j} (onward b m e) (onward b′ m′ e′) =
     let same : b ≡ b′ = omega arith in
-    record { from = ap (λ (x : ℕ). at (occurrence (g .graph) x (source (g .graph) j))) same; to = refl; least-delay = refl; most-delay = refl }
+    record { from = ap (λ (x : ℕ). at (occurrence g x (source g j))) same; to = refl; least-delay = refl; most-delay = refl }
 instance-unique (onward b m e) (start m′ e′) = absurd (let no : ⊥ = omega arith in no)
 instance-unique (start m e) (together m′) = absurd (let no : ⊥ = omega arith in no)
 instance-unique (start m e) (onward b m′ e′) = absurd (let no : ⊥ = omega arith in no)
 instance-unique (start m e) (start m′ e′) = record { from = refl; to = refl; least-delay = refl; most-delay = refl }
 
-pub rule-at-place : {g : StartedGraph} {K : ℕ} {graph : Graph} → Unfolds g K graph
-    → (i : ℕ) (p : Place (templates (g .graph)) K i) → RuleAt g (p .row) (p .within) graph i
+pub rule-at-place : {g : ProcessGraph} {K : ℕ} {graph : Graph} → Unfolds g K graph
+    → (i : ℕ) (p : Place (templates g) K i) → RuleAt g (p .row) (p .within) graph i
 rule-at-place {g} {K} {graph} unfolds i p =
     subst (RuleAt g (p .row) (p .within) graph) (sym (p .there)) (unfolds .each (p .row) (p .within) (p .row-below) (p .within-below))
 
-module _ {g : StartedGraph} {K : ℕ} {graph graph′ : Graph} (x : Unfolds g K graph) (y : Unfolds g K graph′) where
+module _ {g : ProcessGraph} {K : ℕ} {graph graph′ : Graph} (x : Unfolds g K graph) (y : Unfolds g K graph′) where
   record SameEntries (i : ℕ) : Type 0 where
     pub source-same : rule.source graph i ≡ rule.source graph′ i
     pub target-same : rule.target graph i ≡ rule.target graph′ i
     pub least-same : rule.least graph i ≡ rule.least graph′ i
     pub most-same : rule.most graph i ≡ rule.most graph′ i
 
-  entries-same : (i : ℕ) → i < templates (g .graph) * K → SameEntries i
+  entries-same : (i : ℕ) → i < templates g * K → SameEntries i
   entries-same i l =
-      let p = place-found (templates (g .graph)) K i l in
+      let p = place-found (templates g) K i l in
       let r = rule-at-place x i p in
       let r′ = rule-at-place y i p in
       let same = instance-unique (r .instance) (r′ .instance) in

@@ -30,12 +30,11 @@ use Rattle.refusals.specs.Faults.{InsideDelays}
 use Rattle.executions.specs.Separation.{Separation}
 use Rattle.executions.proofs.Unique.{separation-unique}
 use Rattle.processes.specs.declared.Event.{Event}
-use Rattle.processes.specs.Process.{templates, target, mark, occurrence}
+use Rattle.processes.specs.Process.{templates, target, mark, occurrence, ProcessGraph, start-least, start-most}
 use Rattle.processes.specs.Ways.{MarkZeroWay, empty, along, templatesOn, MarkZeroCycle}
 use Rattle.processes.specs.Unfolding.{UnknownTemplateEvent, MarkOutside}
-use Rattle.processes.proofs.Refusals.{plain, ends-of, delays-of, mark-of}
+use Rattle.processes.proofs.Refusals.{plain, ends-of, delays-of, start-of, mark-of}
 use Rattle.processes.proofs.Refusals as templates-laws
-use Rattle.levels.specs.Started.{StartedGraph, startLeast, startMost}
 use Rattle.levels.specs.Full.{fullUnfolding}
 use Rattle.levels.specs.Long.{
   CountOutside,
@@ -68,13 +67,13 @@ use Rattle.levels.proofs.Sound.{Fit}
 
 -- ---- one answer
 
-missing-unique : {g : StartedGraph} {K : ℕ} {s : Event} {ks : ℕ} {t : Event} {kt : ℕ} → OnePlace (MissingOccurrence g K s ks t kt)
+missing-unique : {g : ProcessGraph} {K : ℕ} {s : Event} {ks : ℕ} {t : Event} {kt : ℕ} → OnePlace (MissingOccurrence g K s ks t kt)
 missing-unique p q (source-missing n) (source-missing m) = refl
 missing-unique p q (source-missing n) (target-missing m k) = absurd (n m)
 missing-unique p q (target-missing m k) (source-missing n) = absurd (n m)
 missing-unique p q (target-missing m k) (target-missing n l) = refl
 
-module _ (g : StartedGraph) (K : ℕ) (s : Event) (ks : ℕ) (t : Event) (kt : ℕ) where
+module _ (g : ProcessGraph) (K : ℕ) (s : Event) (ks : ℕ) (t : Event) (kt : ℕ) where
   pub long-places : OnePlaces (longChecks g K s ks t kt)
   long-places = (
     at-zero-unique,
@@ -94,18 +93,18 @@ module _ (g : StartedGraph) (K : ℕ) (s : Event) (ks : ℕ) (t : Event) (kt : �
 
 -- ---- what is kept
 
-pub record ListsKept (g : StartedGraph) : Type 0 where
-  pub few-templates : templates (g .graph) ≤ 128
-  pub targets-match : length (g .graph .targets) ≡ templates (g .graph)
-  pub leasts-match : length (g .graph .leasts) ≡ templates (g .graph)
-  pub mosts-match : length (g .graph .mosts) ≡ templates (g .graph)
-  pub marks-match : length (g .graph .marks) ≡ templates (g .graph)
-  pub start-leasts-match : length (g .start-leasts) ≡ templates (g .graph)
-  pub start-mosts-match : length (g .start-mosts) ≡ templates (g .graph)
+pub record ListsKept (g : ProcessGraph) : Type 0 where
+  pub few-templates : templates g ≤ 128
+  pub targets-match : length (g .targets) ≡ templates g
+  pub leasts-match : length (g .leasts) ≡ templates g
+  pub mosts-match : length (g .mosts) ≡ templates g
+  pub marks-match : length (g .marks) ≡ templates g
+  pub start-leasts-match : length (g .start-leasts) ≡ templates g
+  pub start-mosts-match : length (g .start-mosts) ≡ templates g
 
-pub record InputKept (g : StartedGraph) (K : ℕ) (s : Event) (ks : ℕ) (t : Event) (kt : ℕ) : Type 0 where
-  pub some-event : 0 < g .graph .events
-  pub few-events : g .graph .events ≤ 32
+pub record InputKept (g : ProcessGraph) (K : ℕ) (s : Event) (ks : ℕ) (t : Event) (kt : ℕ) : Type 0 where
+  pub some-event : 0 < g .events
+  pub few-events : g .events ≤ 32
   pub lists : ListsKept g
   pub some-copy : 0 < K
   pub few-copies : K ≤ 100000
@@ -123,11 +122,11 @@ copies-miss {K} some few p a = by (a .holds)
     by (many-copies l) = omega arith
 
 -- the start intervals, read as the delays of an event graph
-abbrev starting : StartedGraph → Graph
-starting g = graphOf (g .graph .events) (g .graph .sources) (g .graph .targets) (g .start-leasts) (g .start-mosts)
+abbrev starting : ProcessGraph → Graph
+starting g = graphOf (g .events) (g .sources) (g .targets) (g .start-leasts) (g .start-mosts)
 
-module _ (g : StartedGraph) where
-  pub count-miss : 0 < g .graph .events → g .graph .events ≤ 32 → Misses (AtZero (CountOutside g))
+module _ (g : ProcessGraph) where
+  pub count-miss : 0 < g .events → g .events ≤ 32 → Misses (AtZero (CountOutside g))
   count-miss some few p a = by (a .holds)
     where
       by : CountOutside g → ⊥
@@ -146,13 +145,13 @@ module _ (g : StartedGraph) where
       by (start-leasts-differ d) = d (kept .start-leasts-match)
       by (start-mosts-differ d) = d (kept .start-mosts-match)
 
-  outside-not : {j : ℕ} → j < templates (g .graph) → InsideDelays (startLeast g j) (startMost g j) → OutsideDelays (startLeast g j) (startMost g j) → ⊥
+  outside-not : {j : ℕ} → j < templates g → InsideDelays (start-least g j) (start-most g j) → OutsideDelays (start-least g j) (start-most g j) → ⊥
   outside-not {j} l h o =
       let kept : DelaysKept 1000000 (starting g) j = record { least-within = h .least-within; most-within = h .most-within; ordered = h .ordered } in
       delays-kept kept (record { is-rule = l; outside = o })
 
-  pub intervals-miss : ((j : ℕ) → j < templates (g .graph) → DelaysKept 1000000 (plain (g .graph)) j)
-      → ((j : ℕ) → j < templates (g .graph) → mark (g .graph) j ≡ 1 → InsideDelays (startLeast g j) (startMost g j)) → Misses (Lowest (IntervalOutside g))
+  pub intervals-miss : ((j : ℕ) → j < templates g → DelaysKept 1000000 (plain g) j)
+      → ((j : ℕ) → j < templates g → mark g j ≡ 1 → InsideDelays (start-least g j) (start-most g j)) → Misses (Lowest (IntervalOutside g))
   intervals-miss delays starts j a =
       let l = a .holds .is-template in
       ⊎-elim (λ o. delays-kept (delays j l) (record { is-rule = l; outside = o })) (λ h. outside-not l (starts j l (h .0)) (h .1)) (a .holds .outside)
@@ -161,84 +160,85 @@ module _ (g : StartedGraph) where
   occurrences-miss a b p (source-missing n) = n a
   occurrences-miss a b p (target-missing h n) = n b
 
-  pub cycles-miss : (MarkZeroCycle (g .graph) → ⊥) → Misses (Lowest (OnCycle g))
+  pub cycles-miss : (MarkZeroCycle g → ⊥) → Misses (Lowest (OnCycle g))
   cycles-miss none v a = none (record { 0 = v }, a .holds .cycle)
 
-  pub targets-miss : ((v : ℕ) → v < g .graph .events → (j : ℕ) × (j < templates (g .graph)) × (target (g .graph) j .0 ≡ v)) → Misses (Lowest (Untargeted g))
+  pub targets-miss : ((v : ℕ) → v < g .events → (j : ℕ) × (j < templates g) × (target g j .0 ≡ v)) → Misses (Lowest (Untargeted g))
   targets-miss targeted v a =
       let (j, l, e) = targeted v (a .holds .is-event) in
       a .holds .no-template j l e
 
   -- ---- and back
 
-  inside-start : {j : ℕ} → j < templates (g .graph) → (OutsideDelays (startLeast g j) (startMost g j) → ⊥) → InsideDelays (startLeast g j) (startMost g j)
+  inside-start : {j : ℕ} → j < templates g → (OutsideDelays (start-least g j) (start-most g j) → ⊥) → InsideDelays (start-least g j) (start-most g j)
   inside-start {j} l inside =
       let h : DelaysKept 1000000 (starting g) j = inside-delays l (λ o. inside (o .outside)) in
       record { least-within = h .least-within; most-within = h .most-within; ordered = h .ordered }
 
   -- the event on a cycle exists, since a template leaves it
-  cycle-known : ((j : ℕ) → j < templates (g .graph) → EndsKept (plain (g .graph)) j)
-      → (u v : Event) (w : MarkZeroWay (g .graph) u v) → 0 < templatesOn w → u .0 < g .graph .events
+  cycle-known : ((j : ℕ) → j < templates g → EndsKept (plain g) j)
+      → (u v : Event) (w : MarkZeroWay g u v) → 0 < templatesOn w → u .0 < g .events
   cycle-known ends u v empty some = absurd (let no : ⊥ = omega arith in no)
-  cycle-known ends u v (along j l m from to w) some = subst (λ (x : Event). x .0 < g .graph .events) from (ends j l .source-known)
+  cycle-known ends u v (along j l m from to w) some = subst (λ (x : Event). x .0 < g .events) from (ends j l .source-known)
 
   -- a template that targets v, among those below r, or none
   abbrev Found : ℕ → ℕ → Type 0
-  Found v r = ((j : ℕ) × (j < r) × (target (g .graph) j .0 ≡ v)) ⊎ ((j : ℕ) → j < r → target (g .graph) j .0 ≡ v → ⊥)
+  Found v r = ((j : ℕ) × (j < r) × (target g j .0 ≡ v)) ⊎ ((j : ℕ) → j < r → target g j .0 ≡ v → ⊥)
 
   search : (v r : ℕ) → Found v r
   search v zero = inr (λ j l. absurd (let no : ⊥ = omega arith in no))
-  search v (suc r) = by (search v r) (ℕ-discrete (target (g .graph) r .0) v)
+  search v (suc r) = by (search v r) (ℕ-discrete (target g r .0) v)
     where
-      by : Found v r → Dec (target (g .graph) r .0 ≡ v) → Found v (suc r)
+      by : Found v r → Dec (target g r .0 ≡ v) → Found v (suc r)
       by (inl (j, l, e)) d = inl (j, omega arith, e)
       by (inr none) (yes e) = inl (r, omega arith, e)
-      by (inr none) (no n) = inr (below-next (λ j. target (g .graph) j .0 ≡ v → ⊥) r none n)
+      by (inr none) (no n) = inr (below-next (λ j. target g j .0 ≡ v → ⊥) r none n)
 
-  pub fit-of : ((j : ℕ) → UnknownTemplateEvent (g .graph) j → ⊥) → ((j : ℕ) → IntervalOutside g j → ⊥) → ((j : ℕ) → MarkOutside (g .graph) j → ⊥)
+  pub fit-of : ((j : ℕ) → UnknownTemplateEvent g j → ⊥) → ((j : ℕ) → IntervalOutside g j → ⊥) → ((j : ℕ) → MarkOutside g j → ⊥)
       → ((v : ℕ) → OnCycle g v → ⊥) → ((v : ℕ) → Untargeted g v → ⊥) → Fit g
   fit-of no-2 no-3 no-7 no-5 no-6 =
       record {
         each =
             record {
               ends = ends;
-              delays = λ j l. delays-of {g = g .graph} j l (λ o. no-3 j (record { is-template = o .is-template; outside = inl (o .outside) }));
+              delays = λ j l. delays-of {g = g} j l (λ o. no-3 j (record { is-template = o .is-template; outside = o .outside }));
+              starts = λ j l m. start-of {g = g} j l m (λ o. no-3 j (record { is-template = o .is-template; outside = o .outside }));
               marks = λ j l. mark-of j l (no-7 j);
             };
         starts = λ j l m. inside-start l (λ o. no-3 j (record { is-template = l; outside = inr (m, o) }));
         no-cycle = λ c. cycle (c .0) (c .1 .0) (c .1 .1);
-        targeted = λ v l. found v l (search v (templates (g .graph)));
+        targeted = λ v l. found v l (search v (templates g));
       }
     where
-      ends : (j : ℕ) → j < templates (g .graph) → EndsKept (plain (g .graph)) j
+      ends : (j : ℕ) → j < templates g → EndsKept (plain g) j
       ends j l = ends-of j l (no-2 j)
 
-      cycle : (v : Event) (w : MarkZeroWay (g .graph) v v) → 0 < templatesOn w → ⊥
+      cycle : (v : Event) (w : MarkZeroWay g v v) → 0 < templatesOn w → ⊥
       cycle v w some = no-5 (v .0) (record { is-event = cycle-known ends v v w some; cycle = (w, some) })
 
-      found : (v : ℕ) → v < g .graph .events → Found v (templates (g .graph)) → (j : ℕ) × (j < templates (g .graph)) × (target (g .graph) j .0 ≡ v)
+      found : (v : ℕ) → v < g .events → Found v (templates g) → (j : ℕ) × (j < templates g) × (target g j .0 ≡ v)
       found v l (inl h) = h
       found v l (inr none) = absurd (no-6 v (record { is-event = l; no-template = none }))
 
   lists-of : (TemplatesOutside g → ⊥) → ListsKept g
   lists-of inside =
-      let few : 128 < templates (g .graph) → ⊥ = λ l. inside (many-templates l) in
+      let few : 128 < templates g → ⊥ = λ l. inside (many-templates l) in
       record {
         few-templates = omega arith;
-        targets-match = stable (length (g .graph .targets)) (templates (g .graph)) (λ d. inside (targets-differ d));
-        leasts-match = stable (length (g .graph .leasts)) (templates (g .graph)) (λ d. inside (leasts-differ d));
-        mosts-match = stable (length (g .graph .mosts)) (templates (g .graph)) (λ d. inside (mosts-differ d));
-        marks-match = stable (length (g .graph .marks)) (templates (g .graph)) (λ d. inside (marks-differ d));
-        start-leasts-match = stable (length (g .start-leasts)) (templates (g .graph)) (λ d. inside (start-leasts-differ d));
-        start-mosts-match = stable (length (g .start-mosts)) (templates (g .graph)) (λ d. inside (start-mosts-differ d));
+        targets-match = stable (length (g .targets)) (templates g) (λ d. inside (targets-differ d));
+        leasts-match = stable (length (g .leasts)) (templates g) (λ d. inside (leasts-differ d));
+        mosts-match = stable (length (g .mosts)) (templates g) (λ d. inside (mosts-differ d));
+        marks-match = stable (length (g .marks)) (templates g) (λ d. inside (marks-differ d));
+        start-leasts-match = stable (length (g .start-leasts)) (templates g) (λ d. inside (start-leasts-differ d));
+        start-mosts-match = stable (length (g .start-mosts)) (templates g) (λ d. inside (start-mosts-differ d));
       }
 
-  at-of : {K : ℕ} (u : Event) (k : ℕ) → Dec (u .0 < g .graph .events) → Dec (k < K) → (At g K u k) ⊎ (At g K u k → ⊥)
+  at-of : {K : ℕ} (u : Event) (k : ℕ) → Dec (u .0 < g .events) → Dec (k < K) → (At g K u k) ⊎ (At g K u k → ⊥)
   at-of u k (yes l) (yes h) = inl (record { is-event = l; is-copy = h })
   at-of u k (yes l) (no n) = inr (λ a. n (a .is-copy))
   at-of u k (no n) d = inr (λ a. n (a .is-event))
 
-module _ {g : StartedGraph} {K : ℕ} {s : Event} {ks : ℕ} {t : Event} {kt : ℕ} where
+module _ {g : ProcessGraph} {K : ℕ} {s : Event} {ks : ℕ} {t : Event} {kt : ℕ} where
   pub input-none : InputKept g K s ks t kt → NoneApplies (inputChecks g K s ks t kt)
   input-none kept = (
     count-miss g (kept .some-event) (kept .few-events),
@@ -266,12 +266,12 @@ module _ {g : StartedGraph} {K : ℕ} {s : Event} {ks : ℕ} {t : Event} {kt : �
   pub input-kept : NoneApplies (inputChecks g K s ks t kt) → InputKept g K s ks t kt
   input-kept (no-21, (no-22, (no-24, (no-2, (no-3, (no-7, (no-4, (no-5, (no-6, _))))))))) =
       let counts : CountOutside g → ⊥ = λ o. no-21 0 (at-zero o) in
-      let some : g .graph .events ≡ 0 → ⊥ = λ e. counts (no-events e) in
-      let few : 32 < g .graph .events → ⊥ = λ l. counts (many-events l) in
+      let some : g .events ≡ 0 → ⊥ = λ e. counts (no-events e) in
+      let few : 32 < g .events → ⊥ = λ l. counts (many-events l) in
       let copies : CopiesOutside K → ⊥ = λ o. no-24 0 (at-zero o) in
       let some-copies : K ≡ 0 → ⊥ = λ e. copies (no-copies e) in
       let few-copies : 100000 < K → ⊥ = λ l. copies (many-copies l) in
-      let there : At g K s ks = source-at (at-of g s ks (decLt (s .0) (g .graph .events)) (decLt ks K)) in
+      let there : At g K s ks = source-at (at-of g s ks (decLt (s .0) (g .events)) (decLt ks K)) in
       record {
         some-event = omega arith;
         few-events = omega arith;
@@ -280,7 +280,7 @@ module _ {g : StartedGraph} {K : ℕ} {s : Event} {ks : ℕ} {t : Event} {kt : �
         few-copies = omega arith;
         fit = fit-of g (none-lowest no-2) (none-lowest no-3) (none-lowest no-7) (none-lowest no-5) (none-lowest no-6);
         source-there = there;
-        target-there = target-at there (at-of g t kt (decLt (t .0) (g .graph .events)) (decLt kt K));
+        target-there = target-at there (at-of g t kt (decLt (t .0) (g .events)) (decLt kt K));
       }
     where
       source-at : (At g K s ks) ⊎ (At g K s ks → ⊥) → At g K s ks
@@ -310,7 +310,7 @@ module _ {g : StartedGraph} {K : ℕ} {s : Event} {ks : ℕ} {t : Event} {kt : �
       }
 
   pub long-answered : InputKept g K s ks t kt → (TooManyPairs g K s ks t kt → ⊥) → {x : ℤ}
-      → Separation (fullUnfolding g K) (occurrence (g .graph) ks s .0) (occurrence (g .graph) kt t .0) x → LongAnswered g K s ks t kt 0 0 x
+      → Separation (fullUnfolding g K) (occurrence g ks s .0) (occurrence g kt t .0) x → LongAnswered g K s ks t kt 0 0 x
   long-answered kept fits separation =
       record {
         verdict = passed-each;

@@ -10,8 +10,7 @@ use mathlib.Core.List.{List, [], _∷_}
 use Prim.Native.Nat.{ℕ, zero, suc, _+_, _*_, _/_, _%_}
 use lib.IntN.{ℤ}
 use Rattle.graphs.specs.Graph.{Graph, graphOf}
-use Rattle.processes.specs.Process.{templates, source, target, least, most, mark, occurrence}
-use Rattle.levels.specs.Started.{StartedGraph, startLeast, startMost}
+use Rattle.processes.specs.Process.{templates, source, target, least, most, mark, occurrence, ProcessGraph, start-least, start-most}
 
 abbrev pub listed : {A : Type 0} → ℕ → (ℕ → A) → List A
 listed zero f = []
@@ -28,21 +27,21 @@ delayAt (suc m) zero s d = s
 delayAt (suc m) (suc k) s d = d
 
 -- rule i stands in row i / templates, at place i % templates of it
-abbrev pub sourceOf : StartedGraph → ℕ → ℕ
+abbrev pub sourceOf : ProcessGraph → ℕ → ℕ
 sourceOf g i =
-    let T = templates (g .graph) in
-    sourceAt (g .graph .events) (mark (g .graph) (i % T)) (i / T) (source (g .graph) (i % T) .0)
+    let T = templates g in
+    sourceAt (g .events) (mark g (i % T)) (i / T) (source g (i % T) .0)
 
-abbrev pub targetOf : StartedGraph → ℕ → ℕ
-targetOf g i = let T = templates (g .graph) in occurrence (g .graph) (i / T) (target (g .graph) (i % T)) .0
+abbrev pub targetOf : ProcessGraph → ℕ → ℕ
+targetOf g i = let T = templates g in occurrence g (i / T) (target g (i % T)) .0
 
-abbrev pub leastOf : StartedGraph → ℕ → ℤ
-leastOf g i = let T = templates (g .graph) in delayAt (mark (g .graph) (i % T)) (i / T) (startLeast g (i % T)) (least (g .graph) (i % T))
+abbrev pub leastOf : ProcessGraph → ℕ → ℤ
+leastOf g i = let T = templates g in delayAt (mark g (i % T)) (i / T) (start-least g (i % T)) (least g (i % T))
 
-abbrev pub mostOf : StartedGraph → ℕ → ℤ
-mostOf g i = let T = templates (g .graph) in delayAt (mark (g .graph) (i % T)) (i / T) (startMost g (i % T)) (most (g .graph) (i % T))
+abbrev pub mostOf : ProcessGraph → ℕ → ℤ
+mostOf g i = let T = templates g in delayAt (mark g (i % T)) (i / T) (start-most g (i % T)) (most g (i % T))
 
-abbrev pub fullUnfolding : StartedGraph → ℕ → Graph
+abbrev pub fullUnfolding : ProcessGraph → ℕ → Graph
 fullUnfolding g K =
-    let n = templates (g .graph) * K in
-    graphOf (1 + g .graph .events * K) (listed n (sourceOf g)) (listed n (targetOf g)) (listed n (leastOf g)) (listed n (mostOf g))
+    let n = templates g * K in
+    graphOf (1 + g .events * K) (listed n (sourceOf g)) (listed n (targetOf g)) (listed n (leastOf g)) (listed n (mostOf g))

@@ -22,27 +22,26 @@ use Rattle.verdicts.specs.Verdict.{Check, check, FirstOf, AtZero, Lowest}
 use Rattle.graphs.specs.Refusal.{OutsideDelays}
 use Rattle.executions.specs.Separation.{Separation}
 use Rattle.processes.specs.declared.Event.{Event}
-use Rattle.processes.specs.Process.{templates, target, least, most, mark, occurrence}
+use Rattle.processes.specs.Process.{templates, target, least, most, mark, occurrence, ProcessGraph, start-least, start-most}
 use Rattle.processes.specs.Unfolding.{UnknownTemplateEvent, MarkOutside}
 use Rattle.processes.specs.Ways.{OnMarkZeroCycle}
 use Rattle.paths.specs.PathPair.{Overfull}
-use Rattle.levels.specs.Started.{StartedGraph, startLeast, startMost}
 use Rattle.levels.specs.Full.{fullUnfolding}
 
 -- "at most 32 process events"; request 3: "process-event count of 0 … 21"
-pub data CountOutside (g : StartedGraph) : Type 0 where
-  no-events : g .graph .events ≡ 0 → CountOutside g
-  many-events : 32 < g .graph .events → CountOutside g
+pub data CountOutside (g : ProcessGraph) : Type 0 where
+  no-events : g .events ≡ 0 → CountOutside g
+  many-events : 32 < g .events → CountOutside g
 
 -- "at most … 128 templates"; request 3: "rule or template count above … or unequal lists 22"
-pub data TemplatesOutside (g : StartedGraph) : Type 0 where
-  many-templates : 128 < templates (g .graph) → TemplatesOutside g
-  targets-differ : (length (g .graph .targets) ≡ templates (g .graph) → ⊥) → TemplatesOutside g
-  leasts-differ : (length (g .graph .leasts) ≡ templates (g .graph) → ⊥) → TemplatesOutside g
-  mosts-differ : (length (g .graph .mosts) ≡ templates (g .graph) → ⊥) → TemplatesOutside g
-  marks-differ : (length (g .graph .marks) ≡ templates (g .graph) → ⊥) → TemplatesOutside g
-  start-leasts-differ : (length (g .start-leasts) ≡ templates (g .graph) → ⊥) → TemplatesOutside g
-  start-mosts-differ : (length (g .start-mosts) ≡ templates (g .graph) → ⊥) → TemplatesOutside g
+pub data TemplatesOutside (g : ProcessGraph) : Type 0 where
+  many-templates : 128 < templates g → TemplatesOutside g
+  targets-differ : (length (g .targets) ≡ templates g → ⊥) → TemplatesOutside g
+  leasts-differ : (length (g .leasts) ≡ templates g → ⊥) → TemplatesOutside g
+  mosts-differ : (length (g .mosts) ≡ templates g → ⊥) → TemplatesOutside g
+  marks-differ : (length (g .marks) ≡ templates g → ⊥) → TemplatesOutside g
+  start-leasts-differ : (length (g .start-leasts) ≡ templates g → ⊥) → TemplatesOutside g
+  start-mosts-differ : (length (g .start-mosts) ≡ templates g → ⊥) → TemplatesOutside g
 
 -- "K up to 100,000"; request 3: "K = 0 or an unfolding beyond its limits 24"
 pub data CopiesOutside (K : ℕ) : Type 0 where
@@ -50,53 +49,53 @@ pub data CopiesOutside (K : ℕ) : Type 0 where
   many-copies : 100000 < K → CopiesOutside K
 
 -- request 1: "3 covers the start interval too, same template as place", "an entry for another mark is neither read nor checked"
-pub record IntervalOutside (g : StartedGraph) (j : ℕ) : Type 0 where
-  pub is-template : j < templates (g .graph)
-  pub outside : OutsideDelays (least (g .graph) j) (most (g .graph) j) ⊎ ((mark (g .graph) j ≡ 1) × OutsideDelays (startLeast g j) (startMost g j))
+pub record IntervalOutside (g : ProcessGraph) (j : ℕ) : Type 0 where
+  pub is-template : j < templates g
+  pub outside : OutsideDelays (least g j) (most g j) ⊎ ((mark g j ≡ 1) × OutsideDelays (start-least g j) (start-most g j))
 
 -- an occurrence: a process event and its k
-pub record At (g : StartedGraph) (K : ℕ) (u : Event) (k : ℕ) : Type 0 where
-  pub is-event : u .0 < g .graph .events
+pub record At (g : ProcessGraph) (K : ℕ) (u : Event) (k : ℕ) : Type 0 where
+  pub is-event : u .0 < g .events
   pub is-copy : k < K
 
 -- "s or t doesn't exist"; "0 if s, else 1"
-pub data MissingOccurrence (g : StartedGraph) (K : ℕ) (s : Event) (ks : ℕ) (t : Event) (kt : ℕ) : ℕ → Type 0 where
+pub data MissingOccurrence (g : ProcessGraph) (K : ℕ) (s : Event) (ks : ℕ) (t : Event) (kt : ℕ) : ℕ → Type 0 where
   source-missing : (At g K s ks → ⊥) → MissingOccurrence g K s ks t kt 0
   target-missing : At g K s ks → (At g K t kt → ⊥) → MissingOccurrence g K s ks t kt 1
 
 -- "5 (lowest process event on a mark-0 cycle)"
-pub record OnCycle (g : StartedGraph) (v : ℕ) : Type 0 where
-  pub is-event : v < g .graph .events
-  pub cycle : OnMarkZeroCycle (g .graph) (record { 0 = v })
+pub record OnCycle (g : ProcessGraph) (v : ℕ) : Type 0 where
+  pub is-event : v < g .events
+  pub cycle : OnMarkZeroCycle g (record { 0 = v })
 
 -- "6 (the lowest process event that no template targets)"
-pub record Untargeted (g : StartedGraph) (v : ℕ) : Type 0 where
-  pub is-event : v < g .graph .events
-  pub no-template : (j : ℕ) → j < templates (g .graph) → target (g .graph) j .0 ≡ v → ⊥
+pub record Untargeted (g : ProcessGraph) (v : ℕ) : Type 0 where
+  pub is-event : v < g .events
+  pub no-template : (j : ℕ) → j < templates g → target g j .0 ≡ v → ⊥
 
 -- "21, 22, 24 at these limits, then 2, 3, 7, 4, 5 (lowest process event on a mark-0 cycle), 6 (the lowest process event that no template targets)"
-abbrev pub inputChecks : StartedGraph → ℕ → Event → ℕ → Event → ℕ → List Check
+abbrev pub inputChecks : ProcessGraph → ℕ → Event → ℕ → Event → ℕ → List Check
 inputChecks g K s ks t kt =
     check 21 (AtZero (CountOutside g))
     ∷ check 22 (AtZero (TemplatesOutside g))
     ∷ check 24 (AtZero (CopiesOutside K))
-    ∷ check 2 (Lowest (UnknownTemplateEvent (g .graph)))
+    ∷ check 2 (Lowest (UnknownTemplateEvent g))
     ∷ check 3 (Lowest (IntervalOutside g))
-    ∷ check 7 (Lowest (MarkOutside (g .graph)))
+    ∷ check 7 (Lowest (MarkOutside g))
     ∷ check 4 (MissingOccurrence g K s ks t kt)
     ∷ check 5 (Lowest (OnCycle g))
     ∷ check 6 (Lowest (Untargeted g))
     ∷ []
 
 -- "then 12, place 0, exactly if for some occurrence, or the root, the fully pruned set over all paths to the target has more than 64 pairs"
-abbrev pub TooManyPairs : StartedGraph → ℕ → Event → ℕ → Event → ℕ → Type 0
-TooManyPairs g K s ks t kt = Overfull (fullUnfolding g K) (occurrence (g .graph) ks s .0) (occurrence (g .graph) kt t .0) 64
+abbrev pub TooManyPairs : ProcessGraph → ℕ → Event → ℕ → Event → ℕ → Type 0
+TooManyPairs g K s ks t kt = Overfull (fullUnfolding g K) (occurrence g ks s .0) (occurrence g kt t .0) 64
 
-abbrev pub longChecks : StartedGraph → ℕ → Event → ℕ → Event → ℕ → List Check
+abbrev pub longChecks : ProcessGraph → ℕ → Event → ℕ → Event → ℕ → List Check
 longChecks g K s ks t kt = inputChecks g K s ks t kt ++ (check 12 (AtZero (TooManyPairs g K s ks t kt)) ∷ [])
 
 -- "The number must equal demand 2's maximum over the graph unfolded in full"
-pub record LongAnswered (g : StartedGraph) (K : ℕ) (s : Event) (ks : ℕ) (t : Event) (kt : ℕ) (refusal place : ℕ) (separation : ℤ) : Type 0 where
+pub record LongAnswered (g : ProcessGraph) (K : ℕ) (s : Event) (ks : ℕ) (t : Event) (kt : ℕ) (refusal place : ℕ) (separation : ℤ) : Type 0 where
   pub verdict : FirstOf (longChecks g K s ks t kt) refusal place
-  pub answer : refusal ≡ 0 → Separation (fullUnfolding g K) (occurrence (g .graph) ks s .0) (occurrence (g .graph) kt t .0) separation
+  pub answer : refusal ≡ 0 → Separation (fullUnfolding g K) (occurrence g ks s .0) (occurrence g kt t .0) separation
   pub refused : (refusal ≡ 0 → ⊥) → separation ≡ pos 0

@@ -5,14 +5,13 @@ use mathlib.Core.Path.{_≡_}
 use Prim.Native.Nat.{ℕ, _<_}
 use Rattle.graphs.specs.Graph as rule
 use Rattle.graphs.specs.Graph.{Graph, rules}
-use Rattle.processes.specs.Process.{templates, source, target, mark}
-use Rattle.levels.specs.Started.{StartedGraph}
+use Rattle.processes.specs.Process.{templates, source, target, mark, ProcessGraph}
 
-pub record MarkZeroRules (g : StartedGraph) (h : Graph) : Type 0 where
-  pub events-same : h .events ≡ g .graph .events
+pub record MarkZeroRules (g : ProcessGraph) (h : Graph) : Type 0 where
+  pub events-same : h .events ≡ g .events
   pub of-template :
       (i : ℕ) → i < rules h
-      → (j : ℕ) × (j < templates (g .graph)) × (mark (g .graph) j ≡ 0) × (rule.source h i ≡ source (g .graph) j .0) × (rule.target h i ≡ target (g .graph) j .0)
+      → (j : ℕ) × (j < templates g) × (mark g j ≡ 0) × (rule.source h i ≡ source g j .0) × (rule.target h i ≡ target g j .0)
   pub has-rule :
-      (j : ℕ) → j < templates (g .graph) → mark (g .graph) j ≡ 0
-      → (i : ℕ) × (i < rules h) × (rule.source h i ≡ source (g .graph) j .0) × (rule.target h i ≡ target (g .graph) j .0)
+      (j : ℕ) → j < templates g → mark g j ≡ 0
+      → (i : ℕ) × (i < rules h) × (rule.source h i ≡ source g j .0) × (rule.target h i ≡ target g j .0)

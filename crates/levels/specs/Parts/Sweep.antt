@@ -21,18 +21,17 @@ use Rattle.sets.specs.Set.{passNothing}
 use Rattle.sets.specs.Held.{limit, pairsOf, held}
 use Rattle.sets.specs.declared.PrunedSet.{PrunedSet}
 use Rattle.processes.specs.declared.Event.{Event}
-use Rattle.processes.specs.Process.{templates, source, target, mark, occurrence}
-use Rattle.levels.specs.Started.{StartedGraph}
+use Rattle.processes.specs.Process.{templates, source, target, mark, occurrence, ProcessGraph}
 
 abbrev pub byMark : {A : Type 0} → ℕ → A → A → A
 byMark zero here above = here
 byMark (suc m) here above = above
 
-abbrev pub capAhead : StartedGraph → (ℕ → Limit) → (ℕ → Limit) → ℕ → Limit
-capAhead g caps above j = byMark (mark (g .graph) j) (caps (target (g .graph) j .0)) (above (target (g .graph) j .0))
+abbrev pub capAhead : ProcessGraph → (ℕ → Limit) → (ℕ → Limit) → ℕ → Limit
+capAhead g caps above j = byMark (mark g j) (caps (target g j .0)) (above (target g j .0))
 
-abbrev pub setAhead : StartedGraph → (ℕ → List Pair) → (ℕ → List Pair) → ℕ → List Pair
-setAhead g sets above j = byMark (mark (g .graph) j) (sets (target (g .graph) j .0)) (above (target (g .graph) j .0))
+abbrev pub setAhead : ProcessGraph → (ℕ → List Pair) → (ℕ → List Pair) → ℕ → List Pair
+setAhead g sets above j = byMark (mark g j) (sets (target g j .0)) (above (target g j .0))
 
 abbrev pub capsOf : List ℤ → List Bool → ℕ → Limit
 capsOf ms fs u = limit (getD ms u (pos 0)) (getD fs u false)
@@ -40,8 +39,8 @@ capsOf ms fs u = limit (getD ms u (pos 0)) (getD fs u false)
 abbrev pub setsOf : List PrunedSet → ℕ → List Pair
 setsOf ss u = pairsOf (getD ss u (held passNothing))
 
-abbrev pub Ranked : StartedGraph → (ℕ → ℕ) → Type 0
-Ranked g rank = (j : ℕ) → j < templates (g .graph) → mark (g .graph) j ≡ 0 → rank (source (g .graph) j .0) < rank (target (g .graph) j .0)
+abbrev pub Ranked : ProcessGraph → (ℕ → ℕ) → Type 0
+Ranked g rank = (j : ℕ) → j < templates g → mark g j ≡ 0 → rank (source g j .0) < rank (target g j .0)
 
 abbrev pub Whole : ℕ → Type 0
 Whole u = Unit {0}
@@ -49,15 +48,15 @@ Whole u = Unit {0}
 abbrev pub From : (ℕ → ℕ) → ℕ → ℕ → Type 0
 From rank r u = r ≤ rank u
 
-pub record LevelHolds (g : StartedGraph) (cap : ℕ → Limit) (full : ℕ → List Pair) (k : ℕ)
+pub record LevelHolds (g : ProcessGraph) (cap : ℕ → Limit) (full : ℕ → List Pair) (k : ℕ)
     (caps : ℕ → Limit) (sets : ℕ → List Pair) (Done : ℕ → Type 0) : Type 0 where
-  pub caps-hold : (u : Event) → u .0 < g .graph .events → Done (u .0) → caps (u .0) ≡ cap (occurrence (g .graph) k u .0)
-  pub sets-hold : (u : Event) → u .0 < g .graph .events → Done (u .0) → sets (u .0) ≡ full (occurrence (g .graph) k u .0)
+  pub caps-hold : (u : Event) → u .0 < g .events → Done (u .0) → caps (u .0) ≡ cap (occurrence g k u .0)
+  pub sets-hold : (u : Event) → u .0 < g .events → Done (u .0) → sets (u .0) ≡ full (occurrence g k u .0)
 
-pub record Fits (g : StartedGraph) (full : ℕ → List Pair) (room k : ℕ) (Done : ℕ → Type 0) : Type 0 where
-  pub each : (u : Event) → u .0 < g .graph .events → Done (u .0) → length (full (occurrence (g .graph) k u .0)) ≤ room
+pub record Fits (g : ProcessGraph) (full : ℕ → List Pair) (room k : ℕ) (Done : ℕ → Type 0) : Type 0 where
+  pub each : (u : Event) → u .0 < g .events → Done (u .0) → length (full (occurrence g k u .0)) ≤ room
 
-pub record Swept (g : StartedGraph) (cap : ℕ → Limit) (full : ℕ → List Pair) (rank : ℕ → ℕ) (room k r : ℕ)
+pub record Swept (g : ProcessGraph) (cap : ℕ → Limit) (full : ℕ → List Pair) (rank : ℕ → ℕ) (room k r : ℕ)
     (caps : ℕ → Limit) (sets : ℕ → List Pair) (above-caps : ℕ → Limit) (above-sets : ℕ → List Pair) : Type 0 where
   pub above : LevelHolds g cap full (suc k) above-caps above-sets Whole
   pub here : LevelHolds g cap full k caps sets (From rank r)

@@ -14,26 +14,25 @@ use Prim.Native.Nat.{ℕ, _+_, _<_}
 use Rattle.sets.specs.Limit.{Limit, unlimited, _≤ᴸ_}
 use Rattle.sets.specs.Pair.{Pair, compose, unit}
 use Rattle.sets.specs.Set.{_∈_}
-use Rattle.processes.specs.Process.{templates, target, mark, occurrence}
-use Rattle.levels.specs.Started.{StartedGraph}
+use Rattle.processes.specs.Process.{templates, target, mark, occurrence, ProcessGraph}
 
-abbrev pub ahead : StartedGraph → ℕ → ℕ → ℕ
-ahead g k j = occurrence (g .graph) (k + mark (g .graph) j) (target (g .graph) j) .0
+abbrev pub ahead : ProcessGraph → ℕ → ℕ → ℕ
+ahead g k j = occurrence g (k + mark g j) (target g j) .0
 
-abbrev pub startAhead : StartedGraph → ℕ → ℕ
-startAhead g j = occurrence (g .graph) 0 (target (g .graph) j) .0
+abbrev pub startAhead : ProcessGraph → ℕ → ℕ
+startAhead g j = occurrence g 0 (target g j) .0
 
 abbrev pub Reached : (From : ℕ → Type 0) (f : ℕ → Limit) (r : ℕ) → Limit → Type 0
 Reached From f r c = (c ≡ unlimited) ⊎ ((j : ℕ) × (j < r) × From j × (f j ≡ c))
 
-pub record LeastTemplate (g : StartedGraph) (From : ℕ → Type 0) (f : ℕ → Limit) (c : Limit) : Type 0 where
-  pub reached : Reached From f (templates (g .graph)) c
-  pub bound : (j : ℕ) → j < templates (g .graph) → From j → c ≤ᴸ f j
+pub record LeastTemplate (g : ProcessGraph) (From : ℕ → Type 0) (f : ℕ → Limit) (c : Limit) : Type 0 where
+  pub reached : Reached From f (templates g) c
+  pub bound : (j : ℕ) → j < templates g → From j → c ≤ᴸ f j
 
 abbrev pub Candidate : (From : ℕ → Type 0) (Here : Type 0) (own : ℕ → Pair) (sets : ℕ → List Pair) (r : ℕ) → Pair → Type 0
 Candidate From Here own sets r p = (Here × (p ≡ unit)) ⊎ ((j : ℕ) × (q : Pair) × (j < r) × From j × (q ∈ sets j) × (p ≡ compose (own j) q))
 
-pub record TemplateTurn (g : StartedGraph) (From : ℕ → Type 0) (Here : Type 0) (own : ℕ → Pair) (sets : ℕ → List Pair) (C : List Pair) : Type 0 where
+pub record TemplateTurn (g : ProcessGraph) (From : ℕ → Type 0) (Here : Type 0) (own : ℕ → Pair) (sets : ℕ → List Pair) (C : List Pair) : Type 0 where
   pub here : Here → unit ∈ C
-  pub on : (j : ℕ) → j < templates (g .graph) → From j → (q : Pair) → q ∈ sets j → compose (own j) q ∈ C
-  pub only : (p : Pair) → p ∈ C → Candidate From Here own sets (templates (g .graph)) p
+  pub on : (j : ℕ) → j < templates g → From j → (q : Pair) → q ∈ sets j → compose (own j) q ∈ C
+  pub only : (p : Pair) → p ∈ C → Candidate From Here own sets (templates g) p

@@ -15,35 +15,34 @@ use Rattle.sets.specs.Limit.{Limit, number, unlimited}
 use Rattle.sets.specs.Pair.{Pair, pair, compose, unit}
 use Rattle.sets.specs.Family.{Family}
 use Rattle.processes.specs.declared.Event.{Event}
-use Rattle.processes.specs.Process.{templates, source, target, least, most, mark}
-use Rattle.levels.specs.Started.{StartedGraph}
+use Rattle.processes.specs.Process.{templates, source, target, least, most, mark, ProcessGraph}
 
-pub data Way (g : StartedGraph) : ℕ → Event → Event → Type 0 where
+pub data Way (g : ProcessGraph) : ℕ → Event → Event → Type 0 where
   nothing : {v : Event} → Way g 0 v v
   within :
-      {d : ℕ} {u v : Event} (j : ℕ) → j < templates (g .graph) → mark (g .graph) j ≡ 0 → source (g .graph) j ≡ u
-      → Way g d (target (g .graph) j) v → Way g d u v
+      {d : ℕ} {u v : Event} (j : ℕ) → j < templates g → mark g j ≡ 0 → source g j ≡ u
+      → Way g d (target g j) v → Way g d u v
   across :
-      {d : ℕ} {u v : Event} (j : ℕ) → j < templates (g .graph) → mark (g .graph) j ≡ 1 → source (g .graph) j ≡ u
-      → Way g d (target (g .graph) j) v → Way g (suc d) u v
+      {d : ℕ} {u v : Event} (j : ℕ) → j < templates g → mark g j ≡ 1 → source g j ≡ u
+      → Way g d (target g j) v → Way g (suc d) u v
 
-abbrev pub wayLeast : {g : StartedGraph} {d : ℕ} {u v : Event} → Way g d u v → ℤ
+abbrev pub wayLeast : {g : ProcessGraph} {d : ℕ} {u v : Event} → Way g d u v → ℤ
 wayLeast nothing = pos 0
-wayLeast {g} (within j l m e w) = least (g .graph) j +ℤ wayLeast w
-wayLeast {g} (across j l m e w) = least (g .graph) j +ℤ wayLeast w
+wayLeast {g} (within j l m e w) = least g j +ℤ wayLeast w
+wayLeast {g} (across j l m e w) = least g j +ℤ wayLeast w
 
-abbrev pub wayPair : {g : StartedGraph} (c : ℕ → Event → Limit) {d : ℕ} {u v : Event} → Way g d u v → Pair
+abbrev pub wayPair : {g : ProcessGraph} (c : ℕ → Event → Limit) {d : ℕ} {u v : Event} → Way g d u v → Pair
 wayPair c nothing = unit
-wayPair {g} c (within {d} j l m e w) = compose (pair (number (most (g .graph) j)) (c d (target (g .graph) j))) (wayPair c w)
-wayPair {g} c (across {d} j l m e w) = compose (pair (number (most (g .graph) j)) (c d (target (g .graph) j))) (wayPair c w)
+wayPair {g} c (within {d} j l m e w) = compose (pair (number (most g j)) (c d (target g j))) (wayPair c w)
+wayPair {g} c (across {d} j l m e w) = compose (pair (number (most g j)) (c d (target g j))) (wayPair c w)
 
-pub record WayM (g : StartedGraph) (d : ℕ) (s v : Event) (x : ℤ) : Type 0 where
+pub record WayM (g : ProcessGraph) (d : ℕ) (s v : Event) (x : ℤ) : Type 0 where
   pub reached : (w : Way g d v s) × (negℤ (wayLeast w) ≡ x)
   pub bound : (w : Way g d v s) → x ≤ℤ negℤ (wayLeast w)
 
-pub data WayCap (g : StartedGraph) (d : ℕ) (s v : Event) : Limit → Type 0 where
+pub data WayCap (g : ProcessGraph) (d : ℕ) (s v : Event) : Limit → Type 0 where
   at-m : (x : ℤ) → WayM g d s v x → WayCap g d s v (number x)
   no-m : (Way g d v s → ⊥) → WayCap g d s v unlimited
 
-abbrev pub WayPairs : (g : StartedGraph) (c : ℕ → Event → Limit) (t : Event) (d : ℕ) (v : Event) → Family
+abbrev pub WayPairs : (g : ProcessGraph) (c : ℕ → Event → Limit) (t : Event) (d : ℕ) (v : Event) → Family
 WayPairs g c t d v l w = (way : Way g d v t) × (wayPair c way ≡ pair (number l) w)
