@@ -4,6 +4,7 @@ pub mod Latest
 pub mod Readings
 pub mod Schedules
 pub mod Unique
+pub mod Rounds
 pub mod Times
 pub mod Same
 pub mod Nearness
