@@ -96,8 +96,11 @@ fn read(text: &[u8], rules: &mut Rules) -> Result<(), Refusal> {
         }
         r += 1;
     }
-    if r > MAX_ROWS || rules.n > MAX_EVENTS {
-        return Err(Refusal { number: 1, place: 0 });
+    if rules.n > MAX_EVENTS {
+        return Err(Refusal { number: 21, place: 0 });
+    }
+    if r > MAX_ROWS {
+        return Err(Refusal { number: 22, place: 0 });
     }
     rules.r = r;
     Ok(())

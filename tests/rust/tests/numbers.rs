@@ -196,7 +196,7 @@ fn meetable(random: &mut Random, graph: &Graph) -> Graph {
 #[test]
 fn hard_deadlines() {
     let mut random = Random::new(29);
-    let mut seen = [0; 11];
+    let mut seen = [0; 25];
     for _ in 0..cases(20_000) {
         let graph = any(&mut random, 12);
         seen[compare_hard(&mut random, &graph).refusal] += 1;
