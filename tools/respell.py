@@ -15,12 +15,12 @@ import sys
 
 STD = set("length take drop append map sum min max get_or set suc zero reverse replicate count".split())
 # A lemma that would have its function's name gets _lem.
-LEMMAS = "cap-ahead cap-from delays-of each-event held-limit next-cap of-rule of-target rule-kept rule-passes set-from source-at unfolds-to rounds-to".split()
+LEMMAS = "cap-ahead cap-from delays-of each-event held-limit next-cap of-rule of-target rule-kept rule-passes set-from unfolds-to rounds-to same-m held-pair".split()
 SPECIAL = {n: n.replace("-", "_") + "_lem" for n in LEMMAS}
 SPECIAL.update({"capped_at": "capped_at_lem", "l-unlimited": "unlimited_l", "w-unlimited": "unlimited_w"})
 KEEP = set()
 TOKEN = re.compile(r"[^\s(){}\[\].,;:\"`«»@=|]+")
-SIGN = re.compile(r"^\s*(?:(?:abbrev|unfoldable|pub|ruleset|instance)\s+)*([^\s(){}\[\].,;:\"`]+)\s*(?:=|:)\s")
+SIGN = re.compile(r"^\s*(?:(?:abbrev|unfoldable|pub|ruleset|instance)\s+)*([^\s(){}\[\].,;:\"`]+)\s*(?:=|:)(?:\s|$)")
 HEAD = re.compile(r"^\s*(?:pub\s+)?(?:record|data)\s")
 CTOR = re.compile(r"^\s*(?:pub\s+)?constructor\s+(\S+)")
 
@@ -39,7 +39,9 @@ def read(p):
 
 
 def goal_file(p):
-    return os.path.basename(p) in ("Proof.antt", "Answers.antt", "Invariants.antt")
+    """A file of a function's proof: it stands in the function's folder, not beside the laws."""
+    folder, name = os.path.split(p)
+    return name in ("Proof.antt", "Answers.antt", "Invariants.antt") and os.path.basename(folder) not in ("specs", "proofs")
 
 
 def defined(root):
@@ -62,7 +64,7 @@ def defined(root):
             if goal_file(p):
                 if re.match(r"\S+ : tie\.", line):
                     goals.add(m.group(1))
-            elif re.match(r"^\s*(?:(?:abbrev|unfoldable|pub|ruleset)\s+)*\S+\s*(?:=|:)\s", line):
+            elif re.match(r"^\s*(?:(?:abbrev|unfoldable|pub|ruleset)\s+)*\S+\s*(?:=|:)(?:\s|$)", line):
                 own.add(m.group(1))
     return own, goals, outside
 
@@ -93,6 +95,8 @@ def table(root):
     to, seen = {}, {}
     for n in sorted(own):
         if n in outside or n in KEEP or not n[0].isalpha() or n[0].isupper():
+            continue
+        if n == "capped_at" and "cappedAt" not in own:
             continue
         new = SPECIAL.get(n) or spell(n, STD)
         if new != n:

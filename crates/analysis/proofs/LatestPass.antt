@@ -45,10 +45,10 @@ pub record Turned (g : Graph) (s : ℕ) (rank : ℕ → ℕ) (u : ℕ → ℤ) (
 
 -- ---- U from another u
 
-u-agrees :
+u_agrees :
     {g : Graph} {s w : ℕ} {x y : ℤ} (f h : ℕ → ℤ) → ((i : ℕ) → i < rules g → target g i ≡ w → f (source g i) ≡ h (source g i)) → x ≡ y →
     UAt g s f w x → UAt g s h w y
-u-agrees {g} {s} {w} f h same e found = subst (UAt g s h w) e (of found)
+u_agrees {g} {s} {w} f h same e found = subst (UAt g s h w) e (of found)
   where
     of : {x : ℤ} → UAt g s f w x → UAt g s h w x
     of (at_root root m) = at_root root m
@@ -235,7 +235,7 @@ module _ (n : ℕ) (ss ts : List ℕ) (ds Ds : List ℤ) (heads nexts order : Li
       here : Turned g s rank (at us') (λ x. get_or depth' x 0) v
       here =
           record {
-            is_u = u-agrees (at us) (at us') (λ i h to. unmoved (source g i) (later_other (source g i) (omega (arith, source_later v i h to, v_rank)))) written (at_other other done.time greatest (capped v_held));
+            is_u = u_agrees (at us) (at us') (λ i h to. unmoved (source g i) (later_other (source g i) (omega (arith, source_later v i h to, v_rank)))) written (at_other other done.time greatest (capped v_held));
             bound = b;
             within = subst (Within b) written (latest_within v_held);
             bounded = omega (arith, v_rank, p.place, few);
@@ -247,7 +247,7 @@ module _ (n : ℕ) (ss ts : List ℕ) (ds Ds : List ℤ) (heads nexts order : Li
       kept w h was =
           let q : w ≡ v → ⊥ = later_other w h in
           record {
-            is_u = u-agrees (at us) (at us') (λ i l to. unmoved (source g i) (later_other (source g i) (omega (arith, source_later w i l to)))) (unmoved w q) was.is_u;
+            is_u = u_agrees (at us) (at us') (λ i l to. unmoved (source g i) (later_other (source g i) (omega (arith, source_later w i l to)))) (unmoved w q) was.is_u;
             bound = was.bound;
             within = subst (Within was.bound) (unmoved w q) was.within;
             bounded = was.bounded;

@@ -9,3 +9,8 @@ pub mod Marking
 pub mod Searching
 pub mod Arranging
 pub mod Promises
+pub mod PullLaws
+pub mod PushLaws
+pub mod ServeLaws
+pub mod OrderEventsLaws
+pub mod TakeRulesLaws

@@ -2,12 +2,12 @@
 --     path_short, m_within    a path has at most as many rules as there are events, so m is small
 --     least_start, least_other    before the walk: m(s) is 0, and no other event has one
 --     least_same              only the rules out of the event matter
---     least-held              once every rule out of v is passed, v has its m
---     least-push              rule i is passed: the lesser of what its source had, and m of its target less the least delay
---     least-over              rules whose target has no path to s change nothing
---     absent-dead             where absent stands there is no path
---     pass-begin, pass_walk, pass-rule, pass_done, pass_over, pass_end    the same of all events, turn by turn
--- Why least-push holds. A path from rule i's source u to s whose first rule is passed has passed it before, or begins with rule i and goes on as a path from
+--     least_held              once every rule out of v is passed, v has its m
+--     least_push              rule i is passed: the lesser of what its source had, and m of its target less the least delay
+--     least_over              rules whose target has no path to s change nothing
+--     absent_dead             where absent stands there is no path
+--     pass_begin, pass_walk, pass_rule, pass_done, pass_over, pass_end    the same of all events, turn by turn
+-- Why least_push holds. A path from rule i's source u to s whose first rule is passed has passed it before, or begins with rule i and goes on as a path from
 -- i's target. So the least −(sum of d) over them is the lesser of the least over the former, which u had, and m(target) − d. Paths of other events don't begin
 -- with rule i. Nothing is said of what the list holds for the target: so it doesn't matter that the list changes under the walk.
 -- Assumes nothing.
@@ -27,7 +27,7 @@ use Rattle.integers.proofs.Word.{within_negation, within_wider}
 use Rattle.graphs.specs.Graph.{Graph, graph_of, rules, source, target, least}
 use Rattle.graphs.specs.Path.{Path, stay, step, steps, least_sum, HasCycle}
 use Rattle.graphs.specs.Limits.{Sized}
-use Rattle.graphs.proofs.Paths.{start_at, path_rank, ranked_acyclic, acyclic_stays, leastSum-within}
+use Rattle.graphs.proofs.Paths.{start_at, path_rank, ranked_acyclic, acyclic_stays, least_sum_within}
 use Rattle.executions.specs.Steps.{M, Lesser}
 use Rattle.analysis.specs.Parts.Chains.{Last}
 use Rattle.analysis.specs.Parts.Order.{Order}
@@ -49,7 +49,7 @@ module _ {b : ℕ} {g : Graph} {order : List ℕ} {rank : ℕ → ℕ} (sized : 
 module _ {g : Graph} {order : List ℕ} {rank : ℕ → ℕ} (sized : Sized 1001000 g) (o : Order g.events g.sources g.targets order rank) where
   sum_within : {u v : ℕ} (p : Path g u v) → Within 1025024000 (neg_ℤ (least_sum p))
   sum_within p =
-      let within : Within (1001000 * steps p) (least_sum p) = leastSum-within (λ i l. (sized.delays i l).least_within) p in
+      let within : Within (1001000 * steps p) (least_sum p) = least_sum_within (λ i l. (sized.delays i l).least_within) p in
       within_negation (within_wider (omega (arith, path_short sized o p)) within)
 
   pub m_within : {s w : ℕ} {x : ℤ} → M g s w x → Within 1025024000 x
@@ -73,11 +73,11 @@ via_none Q never other (step i h e f p) v = never i h v
 abbrev Begins : (g : Graph) (Also : ℕ → Type 0) {u w : ℕ} → Path g u w → Type 0
 Begins g Also {w = w} p = (j : ℕ) × Also j × (q : Path g (target g j) w) × (least_sum p ≡ least g j +ℤ least_sum q)
 
-via-split :
+via_split :
     {g : Graph} (Q R Also : ℕ → Type 0) {u w : ℕ} → ((j : ℕ) → j < rules g → R j → Q j ⊎ Also j) →
     (p : Path g u w) → Via R p → Via Q p ⊎ Begins g Also p
-via-split Q R Also grows stay v = inl tt
-via-split {g} Q R Also grows (step j h e f p) v =
+via_split Q R Also grows stay v = inl tt
+via_split {g} Q R Also grows (step j h e f p) v =
     ⊎_elim inl
     (λ also.
     let (q, its-steps, its-sum) = start_at f p in
@@ -102,20 +102,20 @@ module _ {g : Graph} {s : ℕ} where
         bound = λ p via. h.bound p (via_same R Q from p via);
       }
 
-  least-held :
+  least_held :
       {order : List ℕ} {rank : ℕ → ℕ} {Q : ℕ → Type 0} {v : ℕ} {x : ℤ} → Sized 1001000 g → Order g.events g.sources g.targets order rank →
       ((i : ℕ) → i < rules g → source g i ≡ v → Q i) → LeastBy g s Q v x → MHeld g s v x
-  least-held {Q = Q} {v = v} {x = x} sized o all h =
+  least_held {Q = Q} {v = v} {x = x} sized o all h =
       ⊎_elim
       (λ e. none e (λ p. let low : x ≤ℤ neg_ℤ (least_sum p) = h.bound p (via_all Q all p) in let small = (sum_within sized o p).below in let bad : ⊥ = omega linear in bad))
       (λ w. let (p, via, e) = w in there (record { reached = (p, e); bound = λ q. h.bound q (via_all Q all q) }))
       h.reached
 
-  least-push :
+  least_push :
       {Q R : ℕ → Type 0} {u i : ℕ} {x y z : ℤ} → i < rules g → source g i ≡ u →
       ((j : ℕ) → Q j → R j) → R i → ((j : ℕ) → j < rules g → R j → Q j ⊎ (j ≡ i)) →
       M g s (target g i) y → Lesser x (y -ℤ least g i) z → LeastBy g s Q u x → LeastBy g s R u z
-  least-push {Q} {R} {u} {i} {x} {y} {z} l out to here grows m lesser h = record { reached = reached lesser.one; bound = λ p via. bound p (via-split Q R (λ j. j ≡ i) grows p via) }
+  least_push {Q} {R} {u} {i} {x} {y} {z} l out to here grows m lesser h = record { reached = reached lesser.one; bound = λ p via. bound p (via_split Q R (λ j. j ≡ i) grows p via) }
     where
       reached : (z ≡ x) ⊎ (z ≡ y -ℤ least g i) → (z ≡ absent) ⊎ ((p : Path g u s) × Via R p × (neg_ℤ (least_sum p) ≡ z))
       reached (inl e) = ⊎_elim (λ a. inl (e ∙ a)) (λ w. let (p, via, q) = w in inr (p, via_same Q R (λ j _ _. to j) p via, q ∙ sym e)) h.reached
@@ -136,13 +136,13 @@ module _ {g : Graph} {s : ℕ} where
           let right : z ≤ℤ (y -ℤ least g i) = lesser.right in
           omega (linear, sum (least g i) (least_sum r), negation (least_sum p), negation (least_sum r), difference y (least g i))
 
-  least-over :
+  least_over :
       {Q R : ℕ → Type 0} {u v : ℕ} {x : ℤ} → ((j : ℕ) → Q j → R j) → ((j : ℕ) → j < rules g → R j → Q j ⊎ (target g j ≡ v)) → (Path g v s → ⊥) →
       LeastBy g s Q u x → LeastBy g s R u x
-  least-over {Q} {R} {u} {v} {x} to grows dead h =
+  least_over {Q} {R} {u} {v} {x} to grows dead h =
       record {
         reached = ⊎_elim inl (λ w. let (p, via, e) = w in inr (p, via_same Q R (λ j _ _. to j) p via, e)) h.reached;
-        bound = λ p via. bound p (via-split Q R (λ j. target g j ≡ v) grows p via);
+        bound = λ p via. bound p (via_split Q R (λ j. target g j ≡ v) grows p via);
       }
     where
       bound : (p : Path g u s) → Via Q p ⊎ Begins g (λ j. target g j ≡ v) p → x ≤ℤ neg_ℤ (least_sum p)
@@ -159,10 +159,10 @@ module _ (n : ℕ) (ss ts : List ℕ) (ds Ds : List ℤ) (heads nexts order : Li
   rank = a.rank
 
   -- the list after `clear` and with 0 for s
-  pub pass-begin :
+  pub pass_begin :
       (m₀ m : List ℤ) → s < n → n ≤ length m → ((v : ℕ) → v < n → get_or m v (pos 0) ≡ absent) → drop n m ≡ drop n m₀ → length m ≡ length m₀ →
       MPass g s rank 0 5000 m₀ (set m s (pos 0))
-  pass-begin m₀ m known room cleared beyond same =
+  pass_begin m₀ m known room cleared beyond same =
       record {
         each = λ v l. each v l (ℕ_discrete v s);
         beyond = drop-set-lt n m s (pos 0) known ∙ beyond;
@@ -191,7 +191,7 @@ module _ (n : ℕ) (ss ts : List ℕ) (ds Ds : List ℤ) (heads nexts order : Li
 
     pub pass_held : (m₀ m : List ℤ) → MPass g s rank k 5000 m₀ m → MHeld g s v (get_or m v (pos 0))
     pass_held m₀ m p =
-        least-held sized a.ordered (λ i l out. omega (arith, a.ordered.targets_first i l, ap rank out, rank_here)) (p.each v v_known)
+        least_held sized a.ordered (λ i l out. omega (arith, a.ordered.targets_first i l, ap rank out, rank_here)) (p.each v v_known)
 
     pub pass_walk : (m₀ m : List ℤ) → MPass g s rank k 5000 m₀ m → MPass g s rank k (get_or heads v 0) m₀ m
     pass_walk m₀ m p =
@@ -210,11 +210,11 @@ module _ (n : ℕ) (ss ts : List ℕ) (ds Ds : List ℤ) (heads nexts order : Li
             let same : rank (target g i) ≡ k = omega (arith, a.kept.few_rules) in
             absurd (last.none i (omega arith) (omega (arith, a.kept.targets_match)) (rank_into i h same))
 
-    pub pass-rule :
+    pub pass_rule :
         (m₀ m : List ℤ) (i : ℕ) (y z : ℤ) → i < length ss → target g i ≡ v → M g s v y →
         Lesser (get_or m (source g i) (pos 0)) (y -ℤ least g i) z → n ≤ length m →
         MPass g s rank k (suc i) m₀ m → MPass g s rank k (get_or nexts i 0) m₀ (set m (source g i) z)
-    pass-rule m₀ m i y z l to held lesser room p =
+    pass_rule m₀ m i y z l to held lesser room p =
         record {
           each = λ w h. each w h (ℕ_discrete w (source g i));
           beyond = drop-set-lt n m (source g i) z u_known ∙ p.beyond;
@@ -246,7 +246,7 @@ module _ (n : ℕ) (ss ts : List ℕ) (ds Ds : List ℤ) (heads nexts order : Li
         each : (w : ℕ) → w < n → Dec (w ≡ source g i) → LeastBy g s (Pushed g rank k (get_or nexts i 0)) w (get_or (set m (source g i) z) w (pos 0))
         each w h (yes e) =
             rw (e, get_or-set_same m (source g i) z (pos 0) (omega (arith, u_known)))
-            (least-push l refl more now_pushed only (subst (λ (x : ℕ). M g s x y) (sym to) held) lesser (p.each (source g i) u_known))
+            (least_push l refl more now_pushed only (subst (λ (x : ℕ). M g s x y) (sym to) held) lesser (p.each (source g i) u_known))
         each w h (no e) =
             rw (get_or-set_other m (source g i) w z (pos 0) e)
             (least_same (λ j _ _. more j) (λ j b out q. ⊎_elim (λ x. x) (λ same. absurd (e (sym out ∙ ap (source g) same))) (only j b q)) (p.each w h))
@@ -262,7 +262,7 @@ module _ (n : ℕ) (ss ts : List ℕ) (ds Ds : List ℤ) (heads nexts order : Li
     pub pass_over : (m₀ m : List ℤ) → (Path g v s → ⊥) → MPass g s rank k 5000 m₀ m → MPass g s rank (k + 1) 5000 m₀ m
     pass_over m₀ m dead p =
         record {
-          each = λ w l. least-over (λ j q. omega arith) (λ j h q. by j h q (dec_le (rank (target g j) * 5000 + 5000) (k * 5000 + j))) dead (p.each w l);
+          each = λ w l. least_over (λ j q. omega arith) (λ j h q. by j h q (dec_le (rank (target g j) * 5000 + 5000) (k * 5000 + j))) dead (p.each w l);
           beyond = p.beyond;
           same_length = p.same_length;
         }
@@ -274,14 +274,14 @@ module _ (n : ℕ) (ss ts : List ℕ) (ds Ds : List ℤ) (heads nexts order : Li
   pub pass_end : (m₀ m : List ℤ) (k : ℕ) → n ≤ k → MPass g s rank k 5000 m₀ m → MAll g s m₀ m
   pass_end m₀ m k all p =
       record {
-        each = λ v l. least-held sized a.ordered (λ i h out. omega (arith, a.ordered.targets_first i h, ap rank out, a.ordered.rank_below v l)) (p.each v l);
+        each = λ v l. least_held sized a.ordered (λ i h out. omega (arith, a.ordered.targets_first i h, ap rank out, a.ordered.rank_below v l)) (p.each v l);
         beyond = p.beyond;
         same_length = p.same_length;
       }
 
 -- where the number for "none" stands there is none: m itself is less
-pub absent-dead :
+pub absent_dead :
     {g : Graph} {order : List ℕ} {rank : ℕ → ℕ} {s v : ℕ} {x : ℤ} → Sized 1001000 g → Order g.events g.sources g.targets order rank →
     x ≡ absent → MHeld g s v x → Path g v s → ⊥
-absent-dead sized o e (there m) = absurd (let small = (m_within sized o m).below in let bad : ⊥ = omega linear in bad)
-absent-dead sized o e (none _ dead) = dead
+absent_dead sized o e (there m) = absurd (let small = (m_within sized o m).below in let bad : ⊥ = omega linear in bad)
+absent_dead sized o e (none _ dead) = dead

@@ -1,5 +1,5 @@
 -- Marking the sources of the rules into one event, and listing those that are new.
---     listing-none     nothing is marked, and nothing listed
+--     listing_none     nothing is marked, and nothing listed
 --     listing_room     where some event is not marked, there is room for it
 --     listing_more     marked and listed at the end, it is one more
 --     Marking … e …    the walk through the rules into the event stands at e, and the sources of those passed are marked
@@ -13,10 +13,10 @@ use mathlib.Core.List.{List}
 use Prim.Native.Nat.{ℕ, suc, ◌+◌, ◌<◌, ◌≤◌}
 use native.Mathlib.Decide.{ℕ_discrete, dec_lt}
 use native.Mathlib.Omega.{arith}
-use lib.ListN.{length, get_or, set, length-set, replicate, length-replicate}
+use lib.ListN.{length, get_or, set, length-set}
 use lib.Seq.{get_or-set_same, get_or-set_other}
 use Rattle.sequences.specs.Counted.{Counted}
-use Rattle.sequences.proofs.Counting.{counted_none, counted_less, counted_all, Leaves}
+use Rattle.sequences.proofs.Counting.{counted_none, counted_less, Leaves}
 use Rattle.analysis.specs.Parts.Chains.{Chained}
 use Rattle.analysis.specs.Parts.Cycles.{Listing, InSources, Marked}
 use Rattle.analysis.proofs.Walk.{Walk, walk_start, walk_step, walk_end, walk_map}

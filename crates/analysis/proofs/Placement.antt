@@ -3,7 +3,7 @@
 --     Joins             one event becomes due, and no other change
 --     room_left         while an event has no place, fewer than n have one
 --     progress_place    an event that becomes due and waits for no rule gets the next place
---     progress-beyond   what stands at the next place and beyond may change
+--     progress_beyond   what stands at the next place and beyond may change
 --     progress_keep     an event that becomes due and still waits gets none
 --     walk_begins       the walk through the rules into the event at place head comes to the first of them
 --     walk_waits        the source of the rule that the walk comes to waits for one rule at least
@@ -217,10 +217,10 @@ module _ (n : ℕ) (ss ts : List ℕ) (kept : RulesKept n ss ts) where
         due_placed v d k (no q) = omega (arith, at_other v q, p.due_placed v (joins.others v q d) k)
 
   -- what stands at place `tail` and beyond is no part of the order
-  pub progress-beyond :
+  pub progress_beyond :
       {waiting order : List ℕ} {tail head e : ℕ} {Due : ℕ → Type 0} (x : ℕ) →
       Progress n ss ts waiting order tail head e Due → Progress n ss ts waiting (set order tail x) tail head e Due
-  progress-beyond {waiting} {order} {tail} x p =
+  progress_beyond {waiting} {order} {tail} x p =
       record {
         rank = p.rank;
         placed =

@@ -1,7 +1,7 @@
 -- The promise of the analysis, put together from what its parts promise, and that it fixes the result: two results allowed for one input are equal.
 --     analysed_refused    a refusal leaves the list as it was
 --     analysed_counts, analysed_short, analysed_input    so does refusal 21 or 22, 23, and one of those that speak of what is handed in
---     analysed-input-refused   where the question isn't kept, what `check_input` finds is the answer
+--     analysed_input_refused   where the question isn't kept, what `check_input` finds is the answer
 --     analysed_paths      where the question is kept, what the passes answer is the answer
 --     analyse_unique      two results of `analyse` are equal, the list included
 -- Assumes nothing.
@@ -26,7 +26,7 @@ use Rattle.refusals.specs.Question.{delay_limit}
 use Rattle.refusals.proofs.Question.{QuestionKept, kept_none, question_kept}
 use Rattle.refusals.proofs.Counts.{counts_given}
 use Rattle.analysis.specs.declared.Analysis.{Analysis}
-use Rattle.analysis.specs.Promise.{AnalysisVerdict, AnalysisFound, Analysed}
+use Rattle.analysis.specs.Promise.{AnalysisVerdict, Analysed}
 use Rattle.analysis.specs.Parts.Arranged.{PathsAnalysed, InputRefused}
 use Rattle.analysis.proofs.Arranging.{Refused}
 
@@ -58,10 +58,10 @@ module _ {limit : ℕ} {g : Graph} {s t : ℕ} {us : List ℤ} {a : Analysis} wh
       (front_given (question_checks_to (delay_limit limit) g s t ⊥) (FirstOf (path_checks g)) k p some v))
 
 -- where the question isn't kept, the refusal that `check_input` finds is the answer
-pub analysed-input-refused :
+pub analysed_input_refused :
     {limit : ℕ} {g : Graph} {s t : ℕ} {us : List ℤ} {a : Analysis} → (length us < g.events → ⊥) → (QuestionKept (delay_limit limit) g s t → ⊥) →
     InputRefused limit g s t a → Analysed limit g s t us us a
-analysed-input-refused {a = a} room never r =
+analysed_input_refused {a = a} room never r =
     analysed_input room a.refusal a.place (λ e. never (question_kept Accepted e r.verdict).0) (refl, refl, r.no_source_depth, r.no_target_depth) r.verdict
 
 pub analysed_paths : {limit : ℕ} {g : Graph} {s t : ℕ} {us₀ us : List ℤ} {a : Analysis} → (length us₀ < g.events → ⊥) → QuestionKept (delay_limit limit) g s t → length us ≡ length us₀ → PathsAnalysed g s t us₀ us a → Analysed limit g s t us₀ us a

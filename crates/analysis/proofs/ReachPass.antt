@@ -2,7 +2,7 @@
 --     led_reachable        with no cycle, and a rule into every event but the root, the root reaches every event
 --     MarksFrom … k        the events from place k on are marked or not as they should be
 --     marks_start, marks_turn, marks_end    the walk from the last place to the first
---     marked-lowest        what the search through the marks finds, said of the graph
+--     marked_lowest        what the search through the marks finds, said of the graph
 -- Why led_reachable holds. From an event that isn't the root one goes back along a rule, to an event that comes later in the order; as there are only n places,
 -- this ends, and it can end at the root alone. Assumes nothing.
 use mathlib.Core.Path.{◌≡◌, refl, sym, ap, subst, ◌∙◌}
@@ -119,10 +119,10 @@ module _ (n : ℕ) (ss ts heads nexts order : List ℕ) (a : Arranged n ss ts he
   pub marks_end : (marks : List ℕ) → MarksFrom marks 0 → AllMarked n ss ts marks
   marks_end marks m ds Ds = back_all n ss ts order a.rank a.ordered (Marked (graph_of n ss ts ds Ds) marks) (m.each ds Ds)
 
-pub marked-lowest :
+pub marked_lowest :
     {n r : ℕ} {ss ts marks : List ℕ} (ds Ds : List ℤ) → AllMarked n ss ts marks → LowestOr n (λ v. 0 < get_or marks v 0) (λ v. get_or marks v 0 ≡ 0) r →
     LowestOr n (Reachable (graph_of n ss ts ds Ds)) (λ v. Reachable (graph_of n ss ts ds Ds) v → ⊥) r
-marked-lowest {n} {r} ds Ds all low =
+marked_lowest {n} {r} ds Ds all low =
     record {
       within = low.within;
       before = λ i l. (all ds Ds i (omega (arith, low.within))).reaches (low.before i l);

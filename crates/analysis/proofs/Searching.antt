@@ -7,21 +7,20 @@
 -- leads to v by such a path is marked, its last rule first: v itself exactly if it lies on a cycle. Assumes nothing.
 use mathlib.Core.Path.{◌≡◌, refl, sym, subst, ◌∙◌}
 use mathlib.Core.Bool.{Bool, true, false, true≢false}
-use mathlib.Core.Logic.{◌⊎◌, inl, inr, ⊎_elim}
+use mathlib.Core.Logic.{⊎_elim}
 use mathlib.Core.List.{List, []}
 use Prim.Native.Nat.{ℕ, zero, suc, ◌+◌, ◌<◌, ◌≤◌}
 use native.Mathlib.Decide.{dec_lt}
 use native.Mathlib.Omega.{arith}
 use lib.IntN.{ℤ}
-use lib.ListN.{length, get_or, replicate, length-replicate}
-use Rattle.graphs.specs.Graph.{Graph, graph_of}
+use lib.ListN.{length, get_or, replicate}
+use Rattle.graphs.specs.Graph.{graph_of}
 use Rattle.graphs.specs.Path.{Path, stay, step, steps}
 use Rattle.graphs.proofs.Paths.{empty_ends}
 use Rattle.graphs.proofs.Cycle.{leaves_below}
-use Rattle.sequences.specs.Counted.{Counted}
 use Rattle.sequences.proofs.Counting.{counted_all}
 use Rattle.analysis.specs.Parts.Rules.{EndsBelow}
-use Rattle.analysis.specs.Parts.Cycles.{Listing, InSources, Marked, LiesOn, LiesOff}
+use Rattle.analysis.specs.Parts.Cycles.{Listing, Marked, LiesOn, LiesOff}
 
 -- ---- at first
 

@@ -39,8 +39,8 @@ fn find_latest(
     depth: &mut [u16],
     latest: &mut [i32],
 )
-    requires by_index { (ts : List ℕ) × Arranged n sources.now ts heads.now nexts.now order.now × EventGraph 1001000 (graph_of n sources.now ts leasts.now mosts.now) }
-    requires s_lt_n { (s < n) × (n ≤ length depth.old) × (n ≤ length latest.old) }
+    requires arranged { (ts : List ℕ) × Arranged n sources.now ts heads.now nexts.now order.now × EventGraph 1001000 (graph_of n sources.now ts leasts.now mosts.now) }
+    requires in_bounds { (s < n) × (n ≤ length depth.old) × (n ≤ length latest.old) }
     ensures { (ts : List ℕ) → Arranged n sources.now ts heads.now nexts.now order.now → EventGraph 1001000 (graph_of n sources.now ts leasts.now mosts.now) → LatestFound (graph_of n sources.now ts leasts.now mosts.now) s latest.old latest.new × DepthsFound (graph_of n sources.now ts leasts.now mosts.now) depth.new }
 {
     find_m(n, sources, leasts, heads, nexts, order, s, latest);
@@ -62,8 +62,8 @@ fn analyse_arranged(
     depth: &mut [u16],
     latest: &mut [i32],
 ) -> Analysis
-    requires by_index { (ts : List ℕ) × Arranged n sources.now ts heads.now nexts.now order.now × Sized 1001000 (graph_of n sources.now ts leasts.now mosts.now) }
-    requires s_lt_n { (s < n) × (t < n) × (n ≤ length depth.old) × (n ≤ length latest.old) }
+    requires arranged { (ts : List ℕ) × Arranged n sources.now ts heads.now nexts.now order.now × Sized 1001000 (graph_of n sources.now ts leasts.now mosts.now) }
+    requires in_bounds { (s < n) × (t < n) × (n ≤ length depth.old) × (n ≤ length latest.old) }
     ensures { (ts : List ℕ) → Arranged n sources.now ts heads.now nexts.now order.now → Sized 1001000 (graph_of n sources.now ts leasts.now mosts.now) → PathsAnalysed (graph_of n sources.now ts leasts.now mosts.now) s t latest.old latest.new result }
 {
     let unreached = lowest_unreached(n, sources, heads, nexts, order, depth);
@@ -120,7 +120,7 @@ fn arrange(
     order: &mut [u16],
 ) -> usize
     requires { OrderReady n sources.now targets.now heads.now nexts.now waiting.old order.old × (length heads.now ≤ 1024) }
-    ensures by_index { n ≤ result → (rank : ℕ → ℕ) × Order n sources.now targets.now order.new rank }
+    ensures ordered { n ≤ result → (rank : ℕ → ℕ) × Order n sources.now targets.now order.new rank }
     ensures lowest { result < n → (ds Ds : List ℤ) → Lowest (OnCycle (graph_of n sources.now targets.now ds Ds)) result }
 {
     if order_events(n, sources, heads, nexts, waiting, order) {

@@ -45,8 +45,8 @@ fn mark_sources(
 fn on_cycle(v: usize, sources: &[usize], targets: &[usize], heads: &[u16], nexts: &[u16]) -> bool
     requires v_in_bounds { (v < length heads.now) × (length heads.now ≤ 1024) × (length sources.now ≤ 4096) × (length targets.now ≡ length sources.now) }
     requires chained { Chained targets.now heads.now nexts.now × (length sources.now ≤ length nexts.now) × EndsBelow (length heads.now) sources.now }
-    ensures lies_on { result ≡ true → LiesOn sources.now targets.now v }
-    ensures lies_off { result ≡ false → LiesOff sources.now targets.now v }
+    ensures yes { result ≡ true → LiesOn sources.now targets.now v }
+    ensures no { result ≡ false → LiesOff sources.now targets.now v }
 {
     let mut seen = [false; 1024];
     let mut list = [0u16; 1024];

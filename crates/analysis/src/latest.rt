@@ -8,7 +8,7 @@ ghost use Rattle.analysis.specs.Parts.Latest.{arrival_by, depth_by, Addable, Dee
 use crate::paths::lesser;
 
 // The greatest U(source) + D, and the greatest depth of a source, and 1.
-#[derive(Drop)]
+#[derive(Clone, Copy)]
 struct Arrival {
     time: i32,
     depth: u16,
@@ -90,7 +90,7 @@ fn settle(
     us: &mut [i32],
     depth: &mut [u16],
 )
-    requires by_index { (n : ℕ) × (ts : List ℕ) × Arrivals n sources.now ts heads.now nexts.now mosts.now us.old depth.old v }
+    requires arrivals { (n : ℕ) × (ts : List ℕ) × Arrivals n sources.now ts heads.now nexts.now mosts.now us.old depth.old v }
     requires v_in_bounds { (v < length us.old) × (v < length depth.old) }
     ensures { (n : ℕ) (ts : List ℕ) → Arrivals n sources.now ts heads.now nexts.now mosts.now us.old depth.old v → Settled n sources.now ts mosts.now v us.old depth.old us.new depth.new }
 {

@@ -1,6 +1,8 @@
 // The analysis of an event graph: U of every event against s, and the depths of s and t. The exact and the coarse form stand on it.
 //     analyse    the refusal with its place, or U, written into a lent list, and both depths
 // No caller is trusted: every list, length and number gets an answer. The promise is in specs/Promise.antt.
+#![tactic(auto)]
+
 ghost use Rattle.std.specs.Prelude.{◌≡◌, true, false, ◌<◌};
 ghost use Rattle.graphs.specs.Graph.{graph_of};
 ghost use Rattle.analysis.specs.Promise.{Analysed};
@@ -18,7 +20,7 @@ use crate::arranged::input_refused;
 use crate::lists::{analyse_large, analyse_small};
 
 // What the analysis answers. `refusal` is 0, or the number of document 01's table, with its place.
-#[derive(Drop)]
+#[derive(Clone, Copy)]
 pub struct Analysis {
     pub refusal: usize,
     pub place: usize,
@@ -40,8 +42,8 @@ pub(crate) fn refused(number: usize, place: usize) -> Analysis
 
 // Whether s and t are events.
 fn both_known(n: usize, s: usize, t: usize) -> bool
-    ensures s_lt_n { result ≡ true → (s < n) × (t < n) }
-    ensures fact { result ≡ false → (s < n) × (t < n) → ⊥ }
+    ensures yes { result ≡ true → (s < n) × (t < n) }
+    ensures no { result ≡ false → (s < n) × (t < n) → ⊥ }
 {
     if s >= n {
         return false;

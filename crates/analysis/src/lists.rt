@@ -20,7 +20,7 @@ pub(crate) fn analyse_small(
     latest: &mut [i32],
 ) -> Analysis
     requires counts_kept { CountsKept (graph_of n sources.now targets.now leasts.now mosts.now) × (s < n) × (t < n) × (n ≤ length latest.old) }
-    requires n_bound { (n ≤ 64) × (length sources.now ≤ 1024) }
+    requires small { (n ≤ 64) × (length sources.now ≤ 1024) }
     ensures { Analysed limit (graph_of n sources.now targets.now leasts.now mosts.now) s t latest.old latest.new result }
 {
     let mut heads = [0u16; 64];

@@ -23,8 +23,8 @@ fn place_first(n: usize, waiting: &[u16], order: &mut [u16]) -> usize
 
 // 1 where nothing is left, else 0.
 fn none_left(left: u16) -> usize
-    ensures value { left ≡ 0 → result ≡ 1 }
-    ensures value_2 { (left ≡ 0 → ⊥) → result ≡ 0 }
+    ensures none { left ≡ 0 → result ≡ 1 }
+    ensures some { (left ≡ 0 → ⊥) → result ≡ 0 }
 {
     if left == 0 { 1 } else { 0 }
 }
@@ -41,7 +41,7 @@ fn serve(
     head: usize,
 ) -> usize
     requires head_lt_tail { head < tail }
-    requires by_index { (n : ℕ) × (ts : List ℕ) × ServeReady n sources.now ts heads.now nexts.now waiting.old order.old tail head }
+    requires ready { (n : ℕ) × (ts : List ℕ) × ServeReady n sources.now ts heads.now nexts.now waiting.old order.old tail head }
     ensures { (n : ℕ) (ts : List ℕ) → ServeReady n sources.now ts heads.now nexts.now waiting.old order.old tail head → Serving n sources.now ts waiting.new order.new result (head + 1) }
 {
     let event = order[head] as usize;

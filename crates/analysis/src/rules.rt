@@ -11,8 +11,8 @@ ghost use Rattle.analysis.specs.Parts.Rules.{RightDelays, RightRule, Zeros, Rule
 // Whether both delays are from −bound to bound, and the least is not above the most.
 fn delays_right(bound: usize, least: i64, most: i64) -> bool
     requires { bound ≤ 1001000 }
-    ensures right_delays { result ≡ true → RightDelays bound least most }
-    ensures fact { result ≡ false → RightDelays bound least most → ⊥ }
+    ensures yes { result ≡ true → RightDelays bound least most }
+    ensures no { result ≡ false → RightDelays bound least most → ⊥ }
 {
     let high = bound as i64;
     let low = -high;
@@ -28,8 +28,8 @@ fn delays_right(bound: usize, least: i64, most: i64) -> bool
 // Whether both ends are events below n, and the delays are right.
 fn rule_right(n: usize, bound: usize, source: usize, target: usize, least: i64, most: i64) -> bool
     requires { bound ≤ 1001000 }
-    ensures right_rule { result ≡ true → RightRule n bound source target least most }
-    ensures fact { result ≡ false → RightRule n bound source target least most → ⊥ }
+    ensures yes { result ≡ true → RightRule n bound source target least most }
+    ensures no { result ≡ false → RightRule n bound source target least most → ⊥ }
 {
     if source >= n {
         return false;

@@ -5,17 +5,16 @@
 -- Assumes nothing.
 use mathlib.Core.Path.{◌≡◌, refl, sym, ap, subst, ◌∙◌}
 use mathlib.Core.Bool.{Bool, true, false, true≢false}
-use mathlib.Core.Logic.{◌⊎◌, inl, inr, ⊎_elim}
+use mathlib.Core.Logic.{⊎_elim}
 use mathlib.Core.List.{List}
 use Prim.Native.Nat.{ℕ, zero, suc, ◌<◌, ◌≤◌, zero-le}
 use native.Mathlib.Decide.{ℕ_discrete}
 use native.Mathlib.Omega.{arith}
 use lib.IntN.{ℤ, pos, ◌+ℤ◌}
 use lib.Signed.{◌≤ℤ◌}
-use lib.ListN.{length, get_or, set, replicate, length-replicate}
+use lib.ListN.{get_or, set, replicate, length-replicate}
 use lib.Seq.{get_or-set_same, get_or-set_other}
 use borrow.Author.Count.{below_none}
-use Rattle.integers.proofs.Integer.{linear}
 use Rattle.verdicts.specs.Verdict.{LowestOr}
 use Rattle.graphs.specs.Graph.{Graph, rules, source, target, Greatest}
 use Rattle.graphs.specs.Limits.{SoundGraph}

@@ -5,19 +5,16 @@
 --     unbroken_exactly     so no event is broken exactly if the lists form an execution
 --     never_above          no claim that is right lies above the maximum
 -- Assumes nothing.
-use mathlib.Core.Path.{◌≡◌, refl, sym, ap, subst, ◌∙◌}
+use mathlib.Core.Path.{◌≡◌, refl, ap, subst, ◌∙◌}
 use mathlib.Core.Bool.{Bool, true, false}
 use mathlib.Core.Logic.{◌↔◌}
-use Prim.Native.Nat.{ℕ, zero, suc, ◌<◌}
-use native.Mathlib.Decide.{ℕ_discrete}
-use native.Mathlib.Nat.{not-suc-le-zero}
-use native.Mathlib.Omega.{arith}
-use lib.IntN.{ℤ, pos, ◌+ℤ◌, ◌-ℤ◌, ℤ_discrete}
+use Prim.Native.Nat.{ℕ, ◌<◌}
+use lib.IntN.{ℤ, pos, ◌+ℤ◌, ℤ_discrete}
 use lib.Signed.{◌≤ℤ◌, le_z}
-use Rattle.integers.proofs.Integer.{P, N, linear}
-use Rattle.graphs.specs.Graph.{Graph, rules, source, target, least, most, Greatest}
+use Rattle.integers.proofs.Integer.{linear}
+use Rattle.graphs.specs.Graph.{Graph, source, target, least, most, Greatest}
 use Rattle.graphs.specs.Limits.{SoundGraph}
-use Rattle.graphs.proofs.Greatest.{greatest_exists, greatest-unique, incoming}
+use Rattle.graphs.proofs.Greatest.{greatest_exists, greatest_unique, incoming}
 use Rattle.executions.specs.Execution.{Execution}
 use Rattle.executions.specs.Separation.{Separation}
 use Rattle.claims.specs.Claim.{RightAt, BrokenAt, Holds}
@@ -65,7 +62,7 @@ module _ {g : Graph} {delay time : ℕ → ℤ} where
         where
           by : (x : ℤ) → Greatest g v (λ i. time (source g i) +ℤ delay i) x → Dec (x ≡ time v) → Greatest g v (λ i. time (source g i) +ℤ delay i) (time v)
           by x is (yes same) = subst (Greatest g v (λ i. time (source g i) +ℤ delay i)) same is
-          by x is (no apart) = absurd (stable (λ right. apart (greatest-unique is (right.other other) (λ i l to. refl))))
+          by x is (no apart) = absurd (stable (λ right. apart (greatest_unique is (right.other other) (λ i l to. refl))))
 
       at_root : v ≡ 0 → Dec (time v ≡ pos 0) → time v ≡ pos 0
       at_root z (yes is) = is

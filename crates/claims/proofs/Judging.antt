@@ -7,22 +7,22 @@
 --     judged_number      then the number decides
 --     number_read        what is said of words read back from their bits is said of the numbers
 -- Assumes nothing.
-use mathlib.Core.Path.{◌≡◌, refl, sym, ap, subst, subst₂, ◌∙◌}
-use mathlib.Core.Logic.{◌⊎◌, inl, inr, ⊎_elim}
-use mathlib.Core.List.{List, [], ◌∷◌, ◌++◌}
+use mathlib.Core.Path.{◌≡◌, refl, sym, subst, subst₂}
+use mathlib.Core.Logic.{inl, inr, ⊎_elim}
+use mathlib.Core.List.{List, ◌∷◌, ◌++◌}
 use Prim.Native.Nat.{ℕ, ◌<◌, ◌≤◌, ◌^◌}
 use native.Mathlib.Omega.{arith}
-use lib.IntN.{ℤ, pos, ◌-ℤ◌}
-use lib.Signed.{◌≤ℤ◌, mag}
+use lib.IntN.{ℤ, ◌-ℤ◌}
+use lib.Signed.{mag}
 use mir.Syntax.{w64}
 use mir.Val.{hbits}
 use Rattle.integers.specs.Within.{Within}
-use Rattle.integers.proofs.Integer.{P, N, linear}
-use Rattle.verdicts.specs.Verdict.{First, given, passed, Accepted, accepted, FirstThen, FirstOf, AtZero, Lowest, LowestOr, check}
+use Rattle.integers.proofs.Integer.{linear}
+use Rattle.verdicts.specs.Verdict.{First, given, passed, Accepted, accepted, FirstOf, AtZero, LowestOr, check}
 use Rattle.verdicts.proofs.Verdicts.{Refusals, at_zero, accepted_place, then_place}
 use Rattle.graphs.specs.Graph.{Graph}
 use Rattle.graphs.specs.Limits.{EventGraph}
-use Rattle.graphs.specs.Refusal.{question_checks, path_checks, RulesOutside, rule_checks, MissingEnd}
+use Rattle.graphs.specs.Refusal.{path_checks, RulesOutside, rule_checks, MissingEnd}
 use Rattle.graphs.proofs.Limits.{sound_of}
 use Rattle.executions.specs.Execution.{Execution}
 use Rattle.executions.specs.Separation.{Separation}

@@ -9,14 +9,14 @@
 --     schedule_accepted    a schedule that we write is accepted as the maximum
 -- Assumes nothing.
 use mathlib.Core.Path.{◌≡◌, refl, sym, ap, ap₂, subst, ◌∙◌}
-use mathlib.Core.Logic.{◌⊎◌, inl, inr, ⊎_elim, ◌↔◌}
+use mathlib.Core.Logic.{inl, inr, ⊎_elim, ◌↔◌}
 use mathlib.Core.List.{List}
 use Prim.Native.Nat.{ℕ, zero, suc, ◌<◌}
 use native.Mathlib.Decide.{ℕ_discrete}
 use native.Mathlib.Omega.{arith}
-use lib.IntN.{ℤ, pos, ◌-ℤ◌}
+use lib.IntN.{ℤ, ◌-ℤ◌}
 use lib.Signed.{◌≤ℤ◌, ◌<ℤ◌}
-use Rattle.integers.proofs.Integer.{P, N, linear}
+use Rattle.integers.proofs.Integer.{linear}
 use Rattle.verdicts.specs.Verdict.{Lowest}
 use Rattle.verdicts.proofs.Verdicts.{OnePlaces, lowest_unique, at_zero_unique, one_verdict}
 use Rattle.graphs.specs.Graph.{Graph}

@@ -2,7 +2,7 @@
 --     read z, read_is           a number read back from its bits
 --     rule_outside, rule_past, rule_early, rule_meets      a case each
 -- Assumes nothing.
-use mathlib.Core.Path.{◌≡◌, refl, subst, sym}
+use mathlib.Core.Path.{◌≡◌, refl, subst}
 use mathlib.Core.Bool.{Bool, true, false}
 use Prim.Native.Nat.{ℕ, ◌<◌, ◌^◌}
 use lib.IntN.{ℤ, ◌+ℤ◌}
@@ -10,7 +10,7 @@ use lib.Signed.{◌≤ℤ◌, mag}
 use mir.Syntax.{w64}
 use mir.Val.{hbits, to_z, of_z}
 use mir.ValLaws.{to_z-of_z}
-use Rattle.integers.proofs.Integer.{P, N, linear}
+use Rattle.integers.proofs.Integer.{linear}
 use Rattle.claims.specs.declared.rules.Arrival.{Arrival}
 use Rattle.claims.specs.declared.rules.Arrival.TheVariants.{Exact, Past}
 use Rattle.claims.specs.declared.rules.Arrival.TheVariants as arrival

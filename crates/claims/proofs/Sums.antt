@@ -8,14 +8,13 @@
 -- Assumes nothing.
 use mathlib.Core.Path.{◌≡◌, refl, sym, ◌∙◌}
 use mathlib.Core.Bool.{Bool, true, false, true≢false}
-use Prim.Native.Nat.{ℕ, ◌<◌, ◌^◌}
-use native.Mathlib.Omega.{arith}
-use lib.IntN.{ℤ, pos, negsuc, neg_ℤ, ◌+ℤ◌, ◌-ℤ◌}
+use Prim.Native.Nat.{◌<◌}
+use lib.IntN.{ℤ, pos, negsuc, ◌+ℤ◌, ◌-ℤ◌}
 use lib.Signed.{◌≤ℤ◌, ◌<ℤ◌, lt_z, le_z, mag}
 use mir.Syntax.{w64}
-use mir.Val.{SFits, hbits, to_z, of_z}
+use mir.Val.{SFits, to_z, of_z}
 use mir.Facts.{to_z-of_z}
-use Rattle.integers.proofs.Integer.{P, N, linear, sum, difference}
+use Rattle.integers.proofs.Integer.{linear, sum, difference}
 use Rattle.claims.specs.Parts.Verdicts.{AboveAll, BelowAll, DelayJudged}
 
 abbrev pub last : ℤ

@@ -2,6 +2,8 @@
 //     judge      the refusal; or the lowest event at which an execution's rule is broken; or that the number differs; or whether it is our maximum or below it
 //     as_numbers a judgement as four numbers, for callers that take no enum
 // No caller is trusted: every list, length and number gets an answer, and no sum wraps. The promises are in specs/Claim.antt.
+#![tactic(auto)]
+
 ghost use Rattle.std.specs.Prelude.{◌≡◌, ◌-ℤ◌};
 ghost use Rattle.integers.specs.Within.{Within};
 ghost use Rattle.graphs.specs.Graph.{graph_of};
@@ -18,7 +20,7 @@ const EVENTS_OUTSIDE: usize = 21;
 const RULES_OUTSIDE: usize = 22;
 
 // What is said of a claim: a refusal with its place, or one of the four verdicts. `Broken` hands on the event.
-#[derive(Drop)]
+#[derive(Clone, Copy)]
 pub enum Judgement {
     Refused(usize, usize),
     Maximum,
@@ -28,7 +30,7 @@ pub enum Judgement {
 }
 
 // The same as numbers: `verdict` is 1, 2, 3, 4 in the order above, `event` the broken event. What a case has no value for is 0.
-#[derive(Drop)]
+#[derive(Clone, Copy)]
 pub struct Numbers {
     pub refusal: usize,
     pub place: usize,

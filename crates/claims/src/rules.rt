@@ -9,7 +9,7 @@ const LAST: i64 = 9223372036854775807;
 const FIRST: i64 = -9223372036854775808;
 
 // How source's time + delay stands to the target's time.
-#[derive(Drop)]
+#[derive(Clone, Copy)]
 pub(crate) enum Arrival {
     Early,
     Exact,
@@ -17,7 +17,7 @@ pub(crate) enum Arrival {
 }
 
 // What a rule says of its target: its delay is inside and the target is met exactly, or is later; or the target is broken.
-#[derive(Drop)]
+#[derive(Clone, Copy)]
 pub(crate) enum RuleVerdict {
     Meets,
     Early,

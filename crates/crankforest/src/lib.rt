@@ -10,6 +10,8 @@
 //     crankforest_unfold      the event graph of a process graph
 //     crankforest_judge       the judgement on a claimed gap with its times and delays
 // The promises are those of the functions; specs/Entries.antt says which values the entry's numbers stand for.
+#![tactic(auto)]
+
 ghost use Rattle.text.specs.Answers.{Entered};
 ghost use Rattle.text.specs.Output.{PairsWritten};
 ghost use Rattle.crankforest.specs.Entries.{pairs_answer_of};

@@ -1,10 +1,10 @@
 -- From what the parts promise to the answers.
---     times_small, gaps-small    the times of the ordinary schedule, and the gaps that the rounds start from, are small
---     starts-of                  and these gaps are such numbers as the rounds start from
---     answered-local             the answer of the analysis with lists of 1,024 and 4,096 places is that with none
---     gaps-refused, gaps-none, gaps-found    what `latest_gaps` answers, from what the analysis and the rounds found
---     ends-refused, ends_found   what `both_ends` answers
---     answered-alone             the answer with no lists lent is the answer with lists that are long enough
+--     times_small, gaps_small    the times of the ordinary schedule, and the gaps that the rounds start from, are small
+--     starts_of                  and these gaps are such numbers as the rounds start from
+--     answered_local             the answer of the analysis with lists of 1,024 and 4,096 places is that with none
+--     gaps_refused, gaps_none, gaps_found    what `latest_gaps` answers, from what the analysis and the rounds found
+--     ends_refused, ends_found   what `both_ends` answers
+--     answered_alone             the answer with no lists lent is the answer with lists that are long enough
 --     answered_short             lists that are too short are refused
 -- Assumes nothing.
 use mathlib.Core.Path.{◌≡◌, refl, sym, subst, subst₂, ◌∙◌}
@@ -50,11 +50,11 @@ module _ {g : Graph} (eg : EventGraph 1000000 g) {s : ℕ} (hs : s < g.events) (
     gap_at : (v : ℕ) → v < g.events → Separation g s v (at gaps v)
     gap_at v h = subst (Separation g s v) (sym (filled.each v h)) (schedule.latest v h)
 
-    pub gaps-small : NumbersWithin g.events gaps
-    gaps-small v h = within_wider (omega arith) (exact_size eg hs h (gap_at v h))
+    pub gaps_small : NumbersWithin g.events gaps
+    gaps_small v h = within_wider (omega arith) (exact_size eg hs h (gap_at v h))
 
-    pub starts-of : Starts g s gaps
-    starts-of =
+    pub starts_of : Starts g s gaps
+    starts_of =
         record {
           is_event = hs;
           bound = λ v h time hard. hard_gap (sound_of eg) (gap_at v h) hard;
@@ -63,26 +63,26 @@ module _ {g : Graph} (eg : EventGraph 1000000 g) {s : ℕ} (hs : s < g.events) (
 
 -- ---- the latest gaps
 
-pub answered-local : {g : Graph} {s t : ℕ} (times delays : List ℤ) → length times ≡ 1024 → length delays ≡ 4096 → {a : Answer} → Answered g s t (ShortLists g times delays) a → Answered g s t ⊥ a
-answered-local times delays long wide x = record { verdict = local_room times delays long wide x.verdict; found = x.found; nothing = x.nothing }
+pub answered_local : {g : Graph} {s t : ℕ} (times delays : List ℤ) → length times ≡ 1024 → length delays ≡ 4096 → {a : Answer} → Answered g s t (ShortLists g times delays) a → Answered g s t ⊥ a
+answered_local times delays long wide x = record { verdict = local_room times delays long wide x.verdict; found = x.found; nothing = x.nothing }
 
 module _ {g : Graph} {s t : ℕ} {a : Answer} (answered : Answered g s t ⊥ a) where
-  pub gaps-refused : {xs : List ℤ} → (a.refusal ≡ 0 → ⊥) → GapsAnswered g s t xs (record { refusal = a.refusal; place = a.place; source_depth = 0; target_depth = 0 })
-  gaps-refused some = record { verdict = handed_on some answered.verdict; found = λ e. absurd (some e) }
+  pub gaps_refused : {xs : List ℤ} → (a.refusal ≡ 0 → ⊥) → GapsAnswered g s t xs (record { refusal = a.refusal; place = a.place; source_depth = 0; target_depth = 0 })
+  gaps_refused some = record { verdict = handed_on some answered.verdict; found = λ e. absurd (some e) }
 
   module _ {old new : List ℤ} {r : Bool} (accepted : a.refusal ≡ 0) (starts : Starts g s old) (settled : Settled g old new r) where
     found : Found g s t a
     found = answered.found accepted
 
-    pub gaps-none : r ≡ false → GapsAnswered g s t new (record { refusal = 10; place = 0; source_depth = 0; target_depth = 0 })
-    gaps-none e =
+    pub gaps_none : r ≡ false → GapsAnswered g s t new (record { refusal = 10; place = 0; source_depth = 0; target_depth = 0 })
+    gaps_none e =
         record {
           verdict = refused_10 found.graph found.source_known found.target_known (settled.none s starts e);
           found = λ z. absurd (let no : ⊥ = omega arith in no);
         }
 
-    pub gaps-found : r ≡ true → GapsAnswered g s t new (record { refusal = 0; place = 0; source_depth = a.source_depth; target_depth = a.target_depth })
-    gaps-found e =
+    pub gaps_found : r ≡ true → GapsAnswered g s t new (record { refusal = 0; place = 0; source_depth = a.source_depth; target_depth = a.target_depth })
+    gaps_found e =
         let latest : LatestGaps g s (at new) = settled.gaps s starts e in
         record {
           verdict = accepted_0 found.graph found.source_known found.target_known (hard_of found.graph.sized.ends found.graph.sized.counts.some_event latest.arcs);
@@ -100,8 +100,8 @@ module _ {g : Graph} {s t : ℕ} {a : Answer} (answered : Answered g s t ⊥ a) 
 
 -- ---- both ends
 
-pub ends-refused : {g : Graph} {s t : ℕ} {xs : List ℤ} {a : Gaps} {r : HardAnswer} → GapsAnswered g s t xs a → (a.refusal ≡ 0 → ⊥) → (r.refusal ≡ a.refusal) × (r.place ≡ a.place) × HardNothing r → EndsAnswered g s t xs r
-ends-refused {g} {s} {t} answered some same =
+pub ends_refused : {g : Graph} {s t : ℕ} {xs : List ℤ} {a : Gaps} {r : HardAnswer} → GapsAnswered g s t xs a → (a.refusal ≡ 0 → ⊥) → (r.refusal ≡ a.refusal) × (r.place ≡ a.place) × HardNothing r → EndsAnswered g s t xs r
+ends_refused {g} {s} {t} answered some same =
     record {
       answer =
           record {
@@ -118,8 +118,8 @@ module _ {g : Graph} {s t : ℕ} {xs ys : List ℤ} {a b : Gaps} (forward : Gaps
   there = forward.found accepted
 
   -- the gaps against t are there too, since there are hard times
-  pub back-again : GapsFound g t s ys b
-  back-again =
+  pub back_again : GapsFound g t s ys b
+  back_again =
       let hard = hard_of there.graph.sized.ends there.graph.sized.counts.some_event there.gaps.arcs in
       backward.found (hard_verdict_unique backward.verdict (accepted_0 there.graph there.target_known there.source_known hard)).0
 
@@ -135,7 +135,7 @@ module _ {g : Graph} {s t : ℕ} {xs ys : List ℤ} {a b : Gaps} (forward : Gaps
                     graph = there.graph;
                     source_known = there.source_known;
                     target_known = there.target_known;
-                    lowest = subst (LeastHardSeparation g s t) (sym low) (least_hard_exchanged (gap_separation (sound_of there.graph) back-again.gaps s there.source_known));
+                    lowest = subst (LeastHardSeparation g s t) (sym low) (least_hard_exchanged (gap_separation (sound_of there.graph) back_again.gaps s there.source_known));
                     greatest = subst (HardSeparation g s t) (sym high) (gap_separation (sound_of there.graph) there.gaps t there.target_known);
                     depth_of_source = there.depth_of_source;
                     depth_of_target = there.depth_of_target;
@@ -148,8 +148,8 @@ module _ {g : Graph} {s t : ℕ} {xs ys : List ℤ} {a b : Gaps} (forward : Gaps
 
 -- ---- lent lists
 
-pub answered-alone : {g : Graph} {s t : ℕ} {Short : Type 0} {a : HardAnswer} → (Short → ⊥) → HardAnswered g s t ⊥ a → HardAnswered g s t Short a
-answered-alone room x = record { verdict = hard_short (λ none. absurd none) room x.verdict; found = x.found; nothing = x.nothing }
+pub answered_alone : {g : Graph} {s t : ℕ} {Short : Type 0} {a : HardAnswer} → (Short → ⊥) → HardAnswered g s t ⊥ a → HardAnswered g s t Short a
+answered_alone room x = record { verdict = hard_short (λ none. absurd none) room x.verdict; found = x.found; nothing = x.nothing }
 
 pub answered_short : {g : Graph} {s t : ℕ} {Short : Type 0} {a : Answer} {r : HardAnswer} → Short → Answered g s t Short a → (r.refusal ≡ a.refusal) × (r.place ≡ a.place) × HardNothing r → HardAnswered g s t Short r
 answered_short {g} {s} {t} {Short} short x same =

@@ -24,7 +24,7 @@ use Rattle.graphs.proofs.Unique.{depth_unique}
 use Rattle.executions.specs.Separation.{Separation, LeastSeparation, SameRules, Near, DelaysNear}
 use Rattle.hardtimes.specs.HardTimes.{NoHardTimes, hard_limit}
 use Rattle.hardtimes.proofs.Rules.{hard_not_above, delays_of, hard_executes}
-use Rattle.hardtimes.proofs.Nearness.{hard-near, hard-least-near}
+use Rattle.hardtimes.proofs.Nearness.{hard_near, hard_least_near}
 use Rattle.hardtimes.proofs.Unique.{hard_separation_unique, least_hard_unique, least_not_above, hard_times_unique, hard_delays_unique}
 use Rattle.deadlines.specs.declared.HardAnswer.{HardAnswer}
 use Rattle.deadlines.specs.Promise.{HardVerdict, HardNothing, HardAnswered, HardWritten}
@@ -127,10 +127,10 @@ module _ {g : Graph} {s t : ℕ} {Short : Type 0} {a : HardAnswer} (pa : HardAns
     hard_answers_near =
         let f = pa.found accepted in
         let k = pb.found accepted' in
-        hard-near f.graph k.graph same e near f.source_known f.target_known f.greatest k.greatest
+        hard_near f.graph k.graph same e near f.source_known f.target_known f.greatest k.greatest
 
     pub hard_leasts_near : Near (hard_limit e g.events) a.least b.least
     hard_leasts_near =
         let f = pa.found accepted in
         let k = pb.found accepted' in
-        hard-least-near f.graph k.graph same e near f.source_known f.target_known f.lowest k.lowest
+        hard_least_near f.graph k.graph same e near f.source_known f.target_known f.lowest k.lowest

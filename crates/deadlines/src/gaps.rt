@@ -10,7 +10,7 @@ use crate::rounds::settle;
 use crate::{HardAnswer, refused};
 
 // What is said beside the list of gaps.
-#[derive(Drop)]
+#[derive(Clone, Copy)]
 pub(crate) struct Gaps {
     pub refusal: usize,
     pub place: usize,

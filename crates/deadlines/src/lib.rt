@@ -2,6 +2,8 @@
 //     hard_separation    both ends and both depths, or the refusal with its place
 //     hard_schedule      the same, with the whole latest schedule written into two lent lists
 // No caller is trusted: every list, length and number gets an answer. The promises are in specs/Promise.antt.
+#![tactic(auto)]
+
 ghost use Rattle.std.specs.Prelude.{◌≡◌};
 ghost use Rattle.graphs.specs.Graph.{graph_of};
 ghost use Rattle.separation.specs.Promise.{ShortLists};
@@ -15,7 +17,7 @@ use crate::gaps::both_ends;
 use crate::lists::{write_differences, write_gaps};
 
 // The answer to a question under hard deadlines. `refusal` is 0, or the number of the tables of documents 01 and 02, with its place.
-#[derive(Drop)]
+#[derive(Clone, Copy)]
 pub struct HardAnswer {
     pub refusal: usize,
     pub place: usize,

@@ -6,7 +6,7 @@ ghost use Rattle.deadlines.specs.Parts.Lists.{GapAt, DifferenceAt, RuleTimed};
 
 // The number of each event less that of s.
 pub(crate) fn write_gaps(n: usize, s: usize, numbers: &[i64], gaps: &mut [i64])
-    requires s_lt_n { (s < n) × (n ≤ length numbers.now) × (n ≤ length gaps.old) }
+    requires in_bounds { (s < n) × (n ≤ length numbers.now) × (n ≤ length gaps.old) }
     requires numbers_within { NumbersWithin n numbers.now }
     ensures { Filled (pos 0) n (GapAt numbers.now s) gaps.old gaps.new }
 {
@@ -25,8 +25,8 @@ pub(crate) fn write_differences(
     times: &[i64],
     delays: &mut [i64],
 )
-    requires targets_len { (length targets.now ≡ length sources.now) × (length sources.now ≤ 4096) × (length sources.now ≤ length delays.old) }
-    requires by_index { (i : ℕ) → i < length sources.now → RuleTimed sources.now targets.now times.now i }
+    requires lengths { (length targets.now ≡ length sources.now) × (length sources.now ≤ 4096) × (length sources.now ≤ length delays.old) }
+    requires timed { (i : ℕ) → i < length sources.now → RuleTimed sources.now targets.now times.now i }
     ensures { Filled (pos 0) (length sources.now) (DifferenceAt sources.now targets.now times.now) delays.old delays.new }
 {
     let mut i = 0;

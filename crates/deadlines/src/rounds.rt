@@ -77,6 +77,7 @@ fn round(
 }
 
 // Whether the number of each event is above the floor.
+#[tactic(auto, using(verdicts::proofs::Searches::passed_none, verdicts::proofs::Searches::passed_more))]
 fn above_floor(n: usize, numbers: &[i64]) -> bool
     requires { n ≤ length numbers.now }
     ensures { FloorChecked n numbers.now result }

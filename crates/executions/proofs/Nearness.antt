@@ -11,12 +11,11 @@ use Prim.Native.Nat.{ℕ, zero, suc, ◌+◌, ◌*◌, ◌<◌, ◌≤◌}
 use native.Mathlib.Decide.{ℕ_discrete}
 use native.Mathlib.Nat.{not-suc-le-zero, le_refl}
 use native.Mathlib.Omega.{arith}
-use lib.IntN.{ℤ, pos, neg_ℤ, ◌+ℤ◌, ◌-ℤ◌}
+use lib.IntN.{ℤ, pos, ◌+ℤ◌, ◌-ℤ◌}
 use lib.Signed.{◌≤ℤ◌, le_z}
-use Rattle.integers.proofs.Integer.{P, N, linear, sum, difference, negation, min_ℤ, max_ℤ}
-use Rattle.graphs.specs.Graph.{Graph, rules, source, target, least, most, Greatest}
+use Rattle.integers.proofs.Integer.{linear, sum, difference, min_ℤ, max_ℤ}
+use Rattle.graphs.specs.Graph.{Graph, rules, source, target, least, most}
 use Rattle.graphs.specs.Path.{Path, Depth, steps}
-use Rattle.graphs.specs.Path.Path.{stay, step}
 use Rattle.graphs.specs.Limits.{SoundGraph}
 use Rattle.graphs.proofs.Paths.{along, steps_along}
 use Rattle.graphs.proofs.Rank.{rank_of}

@@ -12,7 +12,7 @@ use mathlib.Core.Bool.{Bool, true, false, cond}
 use Prim.Native.Nat.{ℕ, ◌<◌}
 use lib.IntN.{ℤ, pos, ◌+ℤ◌, ◌-ℤ◌}
 use lib.Signed.{◌≤ℤ◌, le_z}
-use Rattle.integers.proofs.Integer.{P, N, linear, sum, difference, min_ℤ}
+use Rattle.integers.proofs.Integer.{linear, sum, difference, min_ℤ}
 use Rattle.graphs.specs.Graph.{Graph, rules, source, target, least, most, Greatest}
 use Rattle.graphs.specs.Limits.{SoundGraph}
 use Rattle.graphs.proofs.Greatest.{greatest_exists}

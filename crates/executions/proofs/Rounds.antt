@@ -15,7 +15,7 @@ use lib.IntN.{ℤ, ◌+ℤ◌}
 use Rattle.graphs.specs.Graph.{Graph, rules, source, target, Greatest}
 use Rattle.graphs.specs.Limits.{SoundGraph}
 use Rattle.graphs.proofs.Rank.{rank_of}
-use Rattle.graphs.proofs.Greatest.{greatest_exists, greatest-unique, greatest_same, incoming}
+use Rattle.graphs.proofs.Greatest.{greatest_exists, greatest_unique, greatest_same, incoming}
 
 -- what an event's value is made of
 pub record Arrives (g : Graph) (add : ℕ → ℤ) (finish : ℕ → ℤ → ℤ) (before : ℕ → ℤ) (v : ℕ) (x : ℤ) : Type 0 where
@@ -72,7 +72,7 @@ module _ {g : Graph} (sound : SoundGraph g) (start : ℤ) (add : ℕ → ℤ) (f
     settled_at k v h before (no n) =
         let a = value_at_arrives k v h n in
         let b = value_at_arrives (suc k) v h n in
-        let same : a.arrival ≡ b.arrival = greatest-unique a.greatest b.greatest (λ i l e. ap (λ (x : ℤ). x +ℤ add i) (before i l e)) in
+        let same : a.arrival ≡ b.arrival = greatest_unique a.greatest b.greatest (λ i l e. ap (λ (x : ℤ). x +ℤ add i) (before i l e)) in
         a.finished ∙ ap (finish v) same ∙ sym b.finished
 
     settled : (k v : ℕ) → rank v < k → v < g.events → value_at k v ≡ value_at (suc k) v

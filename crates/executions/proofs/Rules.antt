@@ -8,7 +8,7 @@ use mathlib.Core.Path.{◌≡◌, refl, ap}
 use Prim.Native.Nat.{ℕ, ◌<◌}
 use lib.IntN.{ℤ, pos, ◌+ℤ◌}
 use lib.Signed.{◌≤ℤ◌}
-use Rattle.integers.proofs.Integer.{P, N, linear, sum}
+use Rattle.integers.proofs.Integer.{linear, sum}
 use Rattle.graphs.specs.Graph.{Graph, rules, source, target, least, most}
 use Rattle.graphs.specs.Path.{Path, least_sum}
 use Rattle.graphs.specs.Path.Path.{stay, step}

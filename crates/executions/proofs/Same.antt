@@ -10,7 +10,7 @@ use mathlib.Core.Path.{◌≡◌, refl, ap, sym, subst, ◌∙◌}
 use mathlib.Core.List.{List}
 use Prim.Native.Nat.{ℕ, suc, ◌<◌}
 use native.Mathlib.Omega.{arith}
-use lib.IntN.{ℤ, pos, ◌+ℤ◌}
+use lib.IntN.{ℤ, ◌+ℤ◌}
 use lib.Signed.{◌≤ℤ◌}
 use lib.ListN.{length, get_or}
 use Rattle.graphs.specs.Graph.{Graph, rules, source, target, Greatest}

@@ -5,9 +5,9 @@
 -- What is to be shown stands in Latest.antt and Readings.antt; here it is put together. Assumes nothing.
 use mathlib.Core.Path.{◌≡◌, refl, sym, subst}
 use Prim.Native.Nat.{ℕ, ◌<◌}
-use lib.IntN.{ℤ, pos, ◌+ℤ◌, ◌-ℤ◌}
+use lib.IntN.{ℤ, ◌+ℤ◌, ◌-ℤ◌}
 use lib.Signed.{◌≤ℤ◌}
-use Rattle.integers.proofs.Integer.{P, N, linear, sum, difference, min_ℤ}
+use Rattle.integers.proofs.Integer.{linear, sum, difference}
 use Rattle.graphs.specs.Graph.{Graph, rules, source, target, least, most}
 use Rattle.graphs.specs.Limits.{SoundGraph}
 use Rattle.executions.specs.Execution.{Execution}

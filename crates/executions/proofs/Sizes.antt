@@ -5,13 +5,12 @@
 --     exact_size        so an exact answer lies between −2,046,000,000 and 2,046,000,000
 -- The idea. An event's time is a source's time and one delay, and ranks grow along rules; the highest is below 1,024. So a time lies within 1,023 × b, and a
 -- difference of two within twice that. Assumes nothing.
-use mathlib.Core.Path.{◌≡◌, refl, ap, sym, subst, ◌∙◌}
-use Prim.Native.Nat.{ℕ, zero, suc, ◌+◌, ◌*◌, ◌<◌, ◌≤◌}
+use mathlib.Core.Path.{◌≡◌, ap, sym, subst, ◌∙◌}
+use Prim.Native.Nat.{ℕ, zero, suc, ◌*◌, ◌<◌, ◌≤◌}
 use native.Mathlib.Decide.{ℕ_discrete}
 use native.Mathlib.Nat.{not-suc-le-zero, le_refl, mul-le-mul_left}
 use native.Mathlib.Omega.{arith}
-use lib.IntN.{ℤ, pos, neg_ℤ, ◌+ℤ◌, ◌-ℤ◌}
-use lib.Signed.{◌≤ℤ◌}
+use lib.IntN.{ℤ, pos, ◌-ℤ◌}
 use Rattle.integers.specs.Within.{Within}
 use Rattle.integers.proofs.Integer.{linear, negation}
 use Rattle.integers.proofs.Word.{within_wider, within_sum, within_difference}

@@ -6,14 +6,13 @@
 --     same_event                                s may equal t, and the answer is then 0
 -- U is fixed because it is the greatest separation (`separation_of`); the times are fixed by U, and the delays by the times.
 -- Assumes nothing.
-use mathlib.Core.Path.{◌≡◌, refl, ap, sym, subst}
+use mathlib.Core.Path.{◌≡◌, sym}
 use Prim.Native.Nat.{ℕ, ◌<◌}
-use lib.IntN.{ℤ, pos, neg_ℤ, ◌+ℤ◌, ◌-ℤ◌}
+use lib.IntN.{ℤ, pos, neg_ℤ}
 use lib.Signed.{◌≤ℤ◌}
-use Rattle.integers.proofs.Integer.{P, N, linear, sum, difference, negation}
+use Rattle.integers.proofs.Integer.{linear, sum, difference, negation}
 use Rattle.graphs.specs.Graph.{Graph, rules, source, target}
 use Rattle.graphs.specs.Limits.{SoundGraph}
-use Rattle.executions.specs.Execution.{Execution}
 use Rattle.executions.specs.Separation.{Separation, LeastSeparation}
 use Rattle.executions.specs.Steps.{U}
 use Rattle.executions.specs.Schedule.{Latest, GreatestDelay}

@@ -4,7 +4,7 @@
 --     Schedule g s delay time == both lists of the schedule, as 01's sentence fixes them, and what demand 2 says of them
 -- "Both lists are fixed by this": by `times` and `delays` of a Schedule alone (`latest_unique` and `greatest_delays_unique`, proofs/Unique.antt); what demand 2
 -- says of them follows (`schedule_of`, proofs/Schedules.antt). Assumes nothing.
-use Rattle.std.specs.Prelude.{◌≡◌, ℕ, ◌<◌, ℤ, pos, ◌+ℤ◌, ◌-ℤ◌, ◌≤ℤ◌}
+use Rattle.std.specs.Prelude.{◌≡◌, ℕ, ◌<◌, ℤ, ◌+ℤ◌, ◌-ℤ◌, ◌≤ℤ◌}
 use Rattle.graphs.specs.Graph.{Graph, rules, source, target, least, most}
 use Rattle.executions.specs.Execution.{Execution}
 use Rattle.executions.specs.Separation.{Separation}

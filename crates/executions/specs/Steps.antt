@@ -6,8 +6,8 @@
 --     U g s u           == u v is U(v) for every event v
 -- That u v is the greatest separation of v from s is `separation_of` in proofs/Schedules.antt; that it is one number, `u_unique` in proofs/Unique.antt.
 -- Assumes nothing.
-use Rattle.std.specs.Prelude.{◌≡◌, ◌⊎◌, ℕ, ◌<◌, ℤ, pos, neg_ℤ, ◌+ℤ◌, ◌≤ℤ◌}
-use Rattle.graphs.specs.Graph.{Graph, rules, source, most, Greatest}
+use Rattle.std.specs.Prelude.{◌≡◌, ◌⊎◌, ℕ, ◌<◌, ℤ, neg_ℤ, ◌+ℤ◌, ◌≤ℤ◌}
+use Rattle.graphs.specs.Graph.{Graph, source, most, Greatest}
 use Rattle.graphs.specs.Path.{Path, least_sum}
 
 -- "m(v) is the least of −(sum of d) over paths from v to s; m(s) is 0, by the empty path"

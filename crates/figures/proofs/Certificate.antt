@@ -142,9 +142,9 @@ abbrev pub same_m : MaybeM → ℤ → Bool
 same_m absent y = false
 same_m (m_is x) y = eq_z x y
 
-same_m : (x : MaybeM) (y : ℤ) → T (same_m x y) → x ≡ m_is y
-same_m absent y t = absurd t
-same_m (m_is x) y t = ap m_is (eq_z_passes x y t)
+same_m_lem : (x : MaybeM) (y : ℤ) → T (same_m x y) → x ≡ m_is y
+same_m_lem absent y t = absurd t
+same_m_lem (m_is x) y t = ap m_is (eq_z_passes x y t)
 
 -- there is an m, and it is at most z
 abbrev pub AtMost : MaybeM → ℤ → Type 0
@@ -195,7 +195,7 @@ ms_kept g s m t =
     let (zero-s, each) = both_pass (same_m (m s) (pos 0)) _ t in
     let (kept, reached) = both_pass (all_below (rules g) (rule_kept g m)) _ each in
     record {
-      at_s = same_m (m s) (pos 0) zero-s;
+      at_s = same_m_lem (m s) (pos 0) zero-s;
       keeps = λ i l. rule_kept_lem (m (source g i)) (least g i) (m (target g i)) (all_pass (rules g) (rule_kept g m) kept i l);
       begins =
           λ v x l other has.
@@ -265,7 +265,7 @@ pub us_kept : (g : Graph) (m : ℕ → MaybeM) (u : ℕ → ℤ) → T (keeps_u 
 us_kept g m u t =
     let (root, each) = both_pass (same_m (m 0) (u 0)) _ t in
     record {
-      root = same_m (m 0) (u 0) root;
+      root = same_m_lem (m 0) (u 0) root;
       others =
           λ v l other.
           let (i, k, here) = each_event_lem g (λ w. eqb w 0) (gives_u g m u) each v l (λ same. other (eqb→eq v 0 same)) in

@@ -6,11 +6,11 @@
 --     cycle_passes g v …    the tests together
 --     cycle_passed         the figure holds where they pass
 -- What is reached from v by a rule or more is in every S that keeps to v; so where one of them has not v, v lies on no cycle. Assumes nothing.
-use mathlib.Core.Path.{◌≡◌, refl, sym, subst}
+use mathlib.Core.Path.{sym, subst}
 use mathlib.Core.Bool.{Bool, true, false, not, ◌&&◌, ◌||◌}
 use mathlib.Core.List.{List, [], ◌∷◌}
 use mathlib.Core.Logic.{◌⊎◌, inl, inr}
-use Prim.Native.Nat.{ℕ, zero, suc, ◌<◌}
+use Prim.Native.Nat.{ℕ, ◌<◌}
 use native.Mathlib.Omega.{arith}
 use lib.Dec.{T, eqb, eqb→eq, eqb_refl, T_not}
 use lib.ListN.{get_or}

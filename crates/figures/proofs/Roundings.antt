@@ -2,7 +2,7 @@
 --     rounds_to q g lows highs     the test: each number of the lists is a multiple of q, on its side of the delay, and less than q away
 --     rounds_to_lem                   where it passes, the graph with these delays is the rounded graph
 -- Assumes nothing.
-use mathlib.Core.Path.{◌≡◌, refl, sym}
+use mathlib.Core.Path.{refl}
 use mathlib.Core.Bool.{Bool, ◌&&◌}
 use mathlib.Core.List.{List}
 use Prim.Native.Nat.{ℕ, ◌<◌}

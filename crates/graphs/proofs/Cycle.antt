@@ -5,7 +5,7 @@
 --     part_of                 the part of a path between two of its places
 --     closed_cycle            a path between equal events on which a rule stands is a cycle
 --     path_cycle              a long path among the graph's events gives a cycle
---     long-path-cycle         the same where every rule's events exist
+--     long_path_cycle         the same where every rule's events exist
 --     backward_closed_cycle   if some events are left, and each of them is the target of a rule whose source is left too, the graph has a cycle
 -- Assumes nothing.
 use mathlib.Core.Path.{◌≡◌, refl, sym, subst}
@@ -56,18 +56,18 @@ path_cycle {g} p below long =
     closed_cycle part two.same (omega (arith, its-steps))
 
 -- every event on the way exists: a rule's source does, and the last event does
-eventAt-known :
+event_at_known :
     {g : Graph} → ((i : ℕ) → i < rules g → EndsKept g i)
     → {u v : ℕ} (p : Path g u v) → v < g.events → (k : ℕ) → event_at p k < g.events
-eventAt-known kept stay l zero = l
-eventAt-known {g} kept (step i h e f p) l zero = subst (λ (x : ℕ). x < g.events) e (kept i h).source_known
-eventAt-known kept stay l (suc k) = l
-eventAt-known kept (step i h e f p) l (suc k) = eventAt-known kept p l k
+event_at_known kept stay l zero = l
+event_at_known {g} kept (step i h e f p) l zero = subst (λ (x : ℕ). x < g.events) e (kept i h).source_known
+event_at_known kept stay l (suc k) = l
+event_at_known kept (step i h e f p) l (suc k) = event_at_known kept p l k
 
-pub long-path-cycle :
+pub long_path_cycle :
     (g : Graph) → ((i : ℕ) → i < rules g → EndsKept g i)
     → {u v : ℕ} (p : Path g u v) → v < g.events → g.events ≤ steps p → HasCycle g
-long-path-cycle g kept p l long = path_cycle p (eventAt-known kept p l) long
+long_path_cycle g kept p l long = path_cycle p (event_at_known kept p l) long
 
 -- ---- going back
 

@@ -1,7 +1,7 @@
 -- The greatest value over the rules into an event, and the events that have such rules.
 --     greatest_exists      where a rule leads to v, there is a greatest value over the rules into v
---     greatest-le          it grows with the values
---     greatest-unique      it is determined by the values
+--     greatest_le          it grows with the values
+--     greatest_unique      it is determined by the values
 --     greatest_same        so it stays where they do
 --     incoming             every event but the root has a rule that leads to it
 --     root_has_no_rule     no rule leads to the root
@@ -54,18 +54,18 @@ module _ (g : Graph) (v : ℕ) (f : ℕ → ℤ) where
 
 -- ---- and there is one only
 
-pub greatest-le :
+pub greatest_le :
     {g : Graph} {v : ℕ} {f h : ℕ → ℤ} {x y : ℤ} → Greatest g v f x → Greatest g v h y
     → ((i : ℕ) → i < rules g → target g i ≡ v → f i ≤ℤ h i) → x ≤ℤ y
-greatest-le a b le =
+greatest_le a b le =
     let (i, l, to, same) = a.reached in
     omega (linear, le i l to, b.bound i l to)
 
-pub greatest-unique :
+pub greatest_unique :
     {g : Graph} {v : ℕ} {f h : ℕ → ℤ} {x y : ℤ} → Greatest g v f x → Greatest g v h y
     → ((i : ℕ) → i < rules g → target g i ≡ v → f i ≡ h i) → x ≡ y
-greatest-unique a b same =
-    omega (linear, greatest-le a b (λ i l to. omega (linear, same i l to)), greatest-le b a (λ i l to. omega (linear, same i l to)))
+greatest_unique a b same =
+    omega (linear, greatest_le a b (λ i l to. omega (linear, same i l to)), greatest_le b a (λ i l to. omega (linear, same i l to)))
 
 pub greatest_same : {g : Graph} {v : ℕ} {f h : ℕ → ℤ} {x : ℤ} → Greatest g v f x → ((i : ℕ) → i < rules g → target g i ≡ v → f i ≡ h i) → Greatest g v h x
 greatest_same a same =

@@ -6,7 +6,7 @@
 --     path_rank                  where each rule leads to a higher rank, a path has no more rules than the ranks of its ends allow
 --     ranked_acyclic             and there is no cycle
 --     acyclic_stays              without a cycle, a path from an event to itself is empty
---     leastSum-within            where each least delay lies within b, the sum of a path lies within b times its number of rules
+--     least_sum_within            where each least delay lies within b, the sum of a path lies within b times its number of rules
 -- Assumes nothing.
 use mathlib.Core.Path.{◌≡◌, refl, sym, ap, subst, ◌∙◌}
 use Prim.Native.Nat.{ℕ, suc, ◌+◌, ◌*◌, ◌≤◌, ◌<◌}
@@ -139,9 +139,9 @@ acyclic_stays acyclic {v} p =
 
 -- ---- the size of a sum
 
-pub leastSum-within :
+pub least_sum_within :
     {g : Graph} {b : ℕ} → ((i : ℕ) → i < rules g → Within b (least g i))
     → {u v : ℕ} (p : Path g u v) → Within (b * steps p) (least_sum p)
-leastSum-within {b = b} within stay = record { above = omega (linear, negation (pos (b * 0))); below = omega linear }
-leastSum-within {b = b} within (step i h e f p) =
-    within_wider (omega (arith, mul-suc b (steps p))) (within_sum (within i h) (leastSum-within within p))
+least_sum_within {b = b} within stay = record { above = omega (linear, negation (pos (b * 0))); below = omega linear }
+least_sum_within {b = b} within (step i h e f p) =
+    within_wider (omega (arith, mul-suc b (steps p))) (within_sum (within i h) (least_sum_within within p))

@@ -15,7 +15,7 @@ use Rattle.graphs.specs.Graph.{Graph, rules, source, target}
 use Rattle.graphs.specs.Path.{Path, stay, steps, HasCycle}
 use Rattle.graphs.specs.Limits.{EndsKept}
 use Rattle.sequences.proofs.Below.{below_next}
-use Rattle.graphs.proofs.Cycle.{long-path-cycle}
+use Rattle.graphs.proofs.Cycle.{long_path_cycle}
 use Rattle.graphs.proofs.Paths.{along, steps_along, LastRule, no_last, last, last_rule}
 
 pub record Height (g : Graph) (k v : ℕ) : Type 0 where
@@ -77,7 +77,7 @@ module _ (g : Graph) (ends : (i : ℕ) → i < rules g → EndsKept g i) (acycli
     where
       by : Dec (steps p < g.events) → steps p < g.events
       by (yes k) = k
-      by (no long) = absurd (acyclic (long-path-cycle g ends p l (omega arith)))
+      by (no long) = absurd (acyclic (long_path_cycle g ends p l (omega arith)))
 
   pub rank_of : (rank : ℕ → ℕ) × ((i : ℕ) → i < rules g → rank (source g i) < rank (target g i)) × ((v : ℕ) → v < g.events → rank v < g.events)
   rank_of = (λ v. steps (height g g.events v).path, higher, known)

@@ -16,34 +16,10 @@
 use mathlib.Core.Path.{◌≡◌, refl}
 use mathlib.Core.Logic.{◌↔◌}
 use mathlib.Core.List.{[], ◌∷◌, ◌++◌}
-use Prim.Native.Nat.{ℕ, ◌<◌, ◌≤◌}
+use Prim.Native.Nat.{ℕ, ◌<◌}
 use native.Mathlib.Omega.{arith}
 use Rattle.verdicts.specs.Verdict.{check, First, given, passed, Accepted, FirstThen, FirstOf, AtZero, Lowest}
-use Rattle.verdicts.proofs.Verdicts.{
-  OnePlace,
-  OnePlaces,
-  OneVerdict,
-  Misses,
-  NoneApplies,
-  Refusals,
-  Alike,
-  lowest_unique,
-  none_lowest,
-  at_zero_unique,
-  misses_at_zero,
-  holds_not,
-  then_unique,
-  one_verdict,
-  then_more,
-  then_place,
-  not_accepted,
-  rest_of,
-  accepted_none,
-  accepted_place,
-  more_alike,
-  alike_refl,
-  then_alike,
-}
+use Rattle.verdicts.proofs.Verdicts.{OnePlace, OnePlaces, OneVerdict, Misses, NoneApplies, Refusals, Alike, lowest_unique, none_lowest, at_zero_unique, misses_at_zero, holds_not, then_unique, one_verdict, then_more, then_place, not_accepted, rest_of, accepted_none, accepted_place, more_alike, alike_refl}
 use Rattle.graphs.specs.Graph.{Graph, rules}
 use Rattle.graphs.specs.Path.{OnCycle, HasCycle, Reachable}
 use Rattle.graphs.specs.Limits.{CountsKept, EndsKept, DelaysKept, Sized}

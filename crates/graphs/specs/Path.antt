@@ -7,7 +7,7 @@
 --     Reachable g v    == there is a path from the root to v
 --     Depth g v k      == k is the greatest number of rules on a path from the root to v
 -- Assumes nothing.
-use Rattle.std.specs.Prelude.{◌≡◌, ℕ, zero, suc, ◌<◌, ◌≤◌, ℤ, pos, ◌+ℤ◌}
+use Rattle.std.specs.Prelude.{◌≡◌, ℕ, suc, ◌<◌, ◌≤◌, ℤ, pos, ◌+ℤ◌}
 use Rattle.graphs.specs.Graph.{Graph, rules, source, target, least}
 
 pub data Path (g : Graph) : ℕ → ℕ → Type 0 where

@@ -1,1 +1,2 @@
 // Event graphs: the definitions in specs/, their laws in proofs/. There is no code here.
+#![tactic(auto)]

@@ -1,7 +1,7 @@
 -- Times meet the rules where they meet every arc.
 --     arcs_of            hard times meet every arc
 --     hard_of            numbers that meet every arc are hard times once the root is brought to 0
---     hard-shifted       so are times that equal them but for that at the events
+--     hard_shifted       so are times that equal them but for that at the events
 --     arc_known          the two ends of an arc are events
 --     search_arcs        a test passes every arc, or an arc is found that fails it
 --     ≤ℤ-dec             whether a number is at most another
@@ -40,10 +40,10 @@ pub arc_known : {g : Graph} → ((i : ℕ) → i < rules g → EndsKept g i) →
 arc_known ends (forth i l) = ((ends i l).source_known, (ends i l).target_known)
 arc_known ends (back i l) = ((ends i l).target_known, (ends i l).source_known)
 
-pub hard-shifted :
+pub hard_shifted :
     {g : Graph} {x time : ℕ → ℤ} → ((i : ℕ) → i < rules g → EndsKept g i) → 0 < g.events
     → MeetsArcs g x → ((v : ℕ) → v < g.events → time v ≡ x v -ℤ x 0) → HardTimes g time
-hard-shifted {g} {x} {time} ends some arcs times =
+hard_shifted {g} {x} {time} ends some arcs times =
     record {
       root = omega (linear, times 0 some, difference (x 0) (x 0));
       from_least = λ i l.
@@ -72,7 +72,7 @@ hard-shifted {g} {x} {time} ends some arcs times =
     }
 
 pub hard_of : {g : Graph} {x : ℕ → ℤ} → ((i : ℕ) → i < rules g → EndsKept g i) → 0 < g.events → MeetsArcs g x → HardTimes g (λ v. x v -ℤ x 0)
-hard_of ends some arcs = hard-shifted ends some arcs (λ v l. refl)
+hard_of ends some arcs = hard_shifted ends some arcs (λ v l. refl)
 
 -- ---- searching the arcs
 

@@ -12,7 +12,7 @@ use Rattle.graphs.specs.Graph.{Graph, rules, source, target}
 use Rattle.graphs.specs.Limits.{SoundGraph}
 use Rattle.hardtimes.specs.HardTimes.{HardTimes, HardSeparation, HardSchedule}
 use Rattle.hardtimes.specs.Parts.Gaps.{MeetsArcs, LatestGaps}
-use Rattle.hardtimes.proofs.Arcs.{hard_of, hard-shifted}
+use Rattle.hardtimes.proofs.Arcs.{hard_of, hard_shifted}
 
 module _ {g : Graph} (sound : SoundGraph g) {s : ℕ} {x : ℕ → ℤ} where
   pub latest_gaps : s < g.events → MeetsArcs g x → ((v : ℕ) → v < g.events → (time : ℕ → ℤ) → HardTimes g time → (time v -ℤ time s) ≤ℤ x v) → x s ≤ℤ pos 0 → LatestGaps g s x
@@ -38,7 +38,7 @@ module _ {g : Graph} (sound : SoundGraph g) {s : ℕ} {x : ℕ → ℤ} where
     pub gap_schedule : s < g.events → {delay time : ℕ → ℤ} → ((v : ℕ) → v < g.events → time v ≡ x v -ℤ x 0) → ((i : ℕ) → i < rules g → delay i ≡ time (target g i) -ℤ time (source g i)) → HardSchedule g s delay time
     gap_schedule is_event {delay} {time} times delays =
         record {
-          times = hard-shifted sound.ends sound.some_event gaps.arcs times;
+          times = hard_shifted sound.ends sound.some_event gaps.arcs times;
           latest = λ v h other hard.
               omega (
                 linear,

@@ -1,8 +1,8 @@
 -- Delays that differ by at most e move a greatest separation over hard times by at most e × (n − 1).
 --     arc_near         an arc of one graph is an arc of the other, whose weight is at most e more
 --     tight_near       so along k arcs that one graph's latest gaps meet exactly, hard times of the other are at most e × k later
---     hard-near        the maxima, where both graphs have hard times
---     hard-least-near  and the least ones
+--     hard_near        the maxima, where both graphs have hard times
+--     hard_least_near  and the least ones
 -- Along the arcs that lead from s to t (`tight_within`) the maximum of one graph is a sum of at most n − 1 weights, and hard times of the other pass each by
 -- at most e. Assumes nothing.
 use mathlib.Core.Path.{◌≡◌, ap, subst}
@@ -92,10 +92,10 @@ module _ {b : ℕ} {g h : Graph} (eg : EventGraph b g) (same : SameRules g h) (e
       )
 
 -- "where both graphs have a schedule, the maxima differ by at most e × (n − 1)"
-pub hard-near :
+pub hard_near :
     {b : ℕ} {g h : Graph} → EventGraph b g → EventGraph b h → SameRules g h → (e : ℕ) → DelaysNear e g h
     → {s t : ℕ} {x y : ℤ} → s < g.events → t < g.events → HardSeparation g s t x → HardSeparation h s t y → Near (hard_limit e g.events) x y
-hard-near {b} {g} {h} eg eh same e near {s} {t} {x} {y} hs ht a c =
+hard_near {b} {g} {h} eg eh same e near {s} {t} {x} {y} hs ht a c =
     let (time, hard, reached) = a.reached in
     let (time', hard', reached') = c.reached in
     let back : (time t -ℤ time s) ≤ℤ (y +ℤ pos (hard_limit e h.events)) =
@@ -111,11 +111,11 @@ hard-near {b} {g} {h} eg eh same e near {s} {t} {x} {y} hs ht a c =
       not_below = omega (linear, reached', not_far eg same e near hs ht a hard');
     }
 
-pub hard-least-near :
+pub hard_least_near :
     {b : ℕ} {g h : Graph} → EventGraph b g → EventGraph b h → SameRules g h → (e : ℕ) → DelaysNear e g h
     → {s t : ℕ} {x y : ℤ} → s < g.events → t < g.events → LeastHardSeparation g s t x → LeastHardSeparation h s t y → Near (hard_limit e g.events) x y
-hard-least-near {g = g} eg eh same e near {x = x} {y = y} hs ht a c =
-    let n : Near (hard_limit e g.events) (neg_ℤ x) (neg_ℤ y) = hard-near eg eh same e near ht hs (exchanged_hard a) (exchanged_hard c) in
+hard_least_near {g = g} eg eh same e near {x = x} {y = y} hs ht a c =
+    let n : Near (hard_limit e g.events) (neg_ℤ x) (neg_ℤ y) = hard_near eg eh same e near ht hs (exchanged_hard a) (exchanged_hard c) in
     record {
       not_above = omega (linear, n.not_below, negation x, negation y, sum (neg_ℤ x) (pos (hard_limit e g.events)), sum y (pos (hard_limit e g.events)));
       not_below = omega (linear, n.not_above, negation x, negation y, sum (neg_ℤ y) (pos (hard_limit e g.events)), sum x (pos (hard_limit e g.events)));

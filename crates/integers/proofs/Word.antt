@@ -1,21 +1,21 @@
 -- Signed machine words. A local of the code holds bits, and `to_z w` reads the number back. Stated once for every width w.
 --     within_fits      a number between −b and b fits a width that holds b
---     read-back        and its bits are read back as the number
+--     read_back        and its bits are read back as the number
 --     within_sum, within_difference, within_negation, within_wider     bounds of a sum, a difference, a negation, and a looser bound
 --     read_difference, difference_fits, difference_back     what the code forms of two words' bits is their difference; it fits, and its bits are read back
 --     read_sum, sum_fits, sum_back    the same of a sum
 --     cast_fits, cast_back            a number that fits two widths is carried from one to the other
 -- Assumes nothing.
 use mathlib.Core.Path.{◌≡◌}
-use Prim.Native.Nat.{ℕ, suc, ◌+◌, ◌<◌, ◌≤◌, ◌^◌}
+use Prim.Native.Nat.{ℕ, ◌+◌, ◌<◌, ◌≤◌, ◌^◌}
 use native.Mathlib.Omega.{arith}
 use lib.IntN.{ℤ, pos, negsuc, neg_ℤ, ◌+ℤ◌, ◌-ℤ◌}
-use lib.Signed.{◌≤ℤ◌, mag}
+use lib.Signed.{mag}
 use mir.Syntax.{Width}
 use mir.Val.{SFits, hbits, to_z, of_z}
 use mir.ValLaws.{to_z-of_z}
 use Rattle.integers.specs.Within.{Within}
-use Rattle.integers.proofs.Integer.{P, N, linear, sum, difference, negation}
+use Rattle.integers.proofs.Integer.{linear, sum, difference, negation}
 
 mag_below : (b : ℕ) (z : ℤ) {h : ℕ} → b < h → Within b z → mag z < h
 mag_below b (pos n) l w = omega (linear, negation (pos b))

@@ -25,7 +25,7 @@ use Rattle.levels.specs.Parts.Sweep.{Whole, Fits}
 use Rattle.levels.proofs.Outgoing.{past_number}
 use Rattle.levels.proofs.Turns.{past_set}
 use Rattle.levels.proofs.Verdicts.{InputKept}
-use Rattle.levels.proofs.Answers.{kept-unfolds, kept-sound, source_event, target_event, root-number, root-some, answer-overfull, answer_found}
+use Rattle.levels.proofs.Answers.{kept_unfolds, kept_sound, source_event, target_event, root_number, root_some, answer_overfull, answer_found}
 
 -- a number below n whose list is too long, or none
 search : (full : ℕ → List Pair) (room n : ℕ) → ((v : ℕ) × (v < n) × (room < length (full v))) ⊎ ((v : ℕ) → v < n → length (full v) ≤ room)
@@ -53,19 +53,19 @@ module _ {g : ProcessGraph} {K : ℕ} {s : Event} {ks : ℕ} {t : Event} {kt : �
         at u hu (yes below) = short (occurrence g k u).0 (occurrence_below g K k u hu below)
         at u hu (no n) =
             subst (λ (T : List Pair). length T ≤ 64)
-            (sym (past_set kept.fit (kept-unfolds kept) solved (target_event kept) (occurrence g k u).0
-            (past_number kept.fit (kept-unfolds kept) k u (omega arith))))
+            (sym (past_set kept.fit (kept_unfolds kept) solved (target_event kept) (occurrence g k u).0
+            (past_number kept.fit (kept_unfolds kept) k u (omega arith))))
             (omega arith)
 
     answered : ((v : ℕ) × (v < 1 + g.events * K) × (64 < length (full v))) ⊎ ((v : ℕ) → v < 1 + g.events * K → length (full v) ≤ 64)
         → (refusal : ℕ) × (place : ℕ) × (x : ℤ) × LongAnswered g K s ks t kt refusal place x
-    answered (inl (v, l, over)) = (12, 0, pos 0, answer-overfull kept solved v l over)
+    answered (inl (v, l, over)) = (12, 0, pos 0, answer_overfull kept solved v l over)
     answered (inr short) =
-        let (m, e) = root-number (kept-sound kept) solved (source_event kept) in
-        let (x, v) = value_of (full 0) m (root-some (kept-sound kept) solved (target_event kept)) (solved.sets.each 0).numbered.number_of in
+        let (m, e) = root_number (kept_sound kept) solved (source_event kept) in
+        let (x, v) = value_of (full 0) m (root_some (kept_sound kept) solved (target_event kept)) (solved.sets.each 0).numbered.number_of in
         (0, 0, x, answer_found kept solved (all_fit short) (short 0 (omega arith)) e v)
 
   pub long_exists : (refusal : ℕ) × (place : ℕ) × (x : ℤ) × LongAnswered g K s ks t kt refusal place x
   long_exists =
-      let (cap, full, solved) = solved_exists (kept-sound kept) (occurrence g ks s).0 (occurrence g kt t).0 in
+      let (cap, full, solved) = solved_exists (kept_sound kept) (occurrence g ks s).0 (occurrence g kt t).0 in
       answered solved (search full 64 (1 + g.events * K))

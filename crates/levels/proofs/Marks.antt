@@ -21,14 +21,14 @@ module _ {g : ProcessGraph} {h : Graph} (same : MarkZeroRules g h) where
   pub way_path : (u v : Event) (w : MarkZeroWay g u v) → (p : Path h u.0 v.0) × (steps p ≡ templates_on w)
   way_path u v empty = (stay, refl)
   way_path u v (along {v = x} j l m from to w) =
-      let (i, is_rule, source_is, target_is) = same.has-rule j l m in
+      let (i, is_rule, source_is, target_is) = same.has_rule j l m in
       let (p, as_many) = way_path x v w in
       (step i is_rule (source_is ∙ ap (λ (e : Event). e.0) from) (target_is ∙ ap (λ (e : Event). e.0) to) p, ap suc as_many)
 
   pub path_way : {x y : ℕ} (p : Path h x y) (u v : Event) → u.0 ≡ x → v.0 ≡ y → (w : MarkZeroWay g u v) × (templates_on w ≡ steps p)
   path_way stay u v eu ev = subst (λ (x : Event). (w : MarkZeroWay g u x) × (templates_on w ≡ 0)) (event_same u v (eu ∙ sym ev)) (empty, refl)
   path_way (step i is_rule leaves enters p) u v eu ev =
-      let (j, l, m, source_is, target_is) = same.of-template i is_rule in
+      let (j, l, m, source_is, target_is) = same.of_template i is_rule in
       let (w, as_many) = path_way p (target g j) v (sym target_is ∙ enters) ev in
       (along j l m (event_same (source g j) u (sym source_is ∙ leaves ∙ sym eu)) refl w, ap suc as_many)
 
@@ -40,6 +40,6 @@ module _ {g : ProcessGraph} {h : Graph} (same : MarkZeroRules g h) where
 
   pub ranked_of : (rank : ℕ → ℕ) → ((i : ℕ) → i < rules h → rank (rule.source h i) < rank (rule.target h i)) → Ranked g rank
   ranked_of rank higher j l m =
-      let (i, is_rule, source_is, target_is) = same.has-rule j l m in
+      let (i, is_rule, source_is, target_is) = same.has_rule j l m in
       let up = higher i is_rule in
       omega (arith, up, ap rank source_is, ap rank target_is)

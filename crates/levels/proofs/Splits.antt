@@ -46,10 +46,10 @@ module _ (g : ProcessGraph) (c : ℕ → Event → Limit) where
       let (b, same) = subst (λ (n : ℕ). (b : Way g n u v) × (way_pair c w ≡ way_pair c b)) (let same : d ≡ d₂ = omega arith in same) (w, refl) in
       (u, nothing, b, same ∙ sym (unit_compose (way_pair c b)))
   way_split nothing (suc d₁) d₂ e = absurd (let no : ⊥ = omega arith in no)
-  way_split {d} (within j l m from w) (suc d₁) d₂ e =
-      let (x, a, b, same) = way_split w (suc d₁) d₂ e in
+  way_split {d = d} {u = u} {v = v} (within j l m from w) (suc d₁) d₂ e =
+      let (x, a, b, same) = way_split {d = d} {u = target g j} {v = v} w (suc d₁) d₂ e in
       (x, within j l m from a, b, in_front d (suc d₁) d₂ j e (way_pair c w) (way_pair (later c d₂) a) (way_pair c b) same)
-  way_split (across {d} j l m from w) (suc d₁) d₂ e =
+  way_split {u = u} {v = v} (across {d} j l m from w) (suc d₁) d₂ e =
       let less : d ≡ d₁ + d₂ = omega arith in
-      let (x, a, b, same) = way_split w d₁ d₂ less in
+      let (x, a, b, same) = way_split {d = d} {u = target g j} {v = v} w d₁ d₂ less in
       (x, across j l m from a, b, in_front d d₁ d₂ j less (way_pair c w) (way_pair (later c d₂) a) (way_pair c b) same)

@@ -271,7 +271,7 @@ module _ {g : ProcessGraph} {K : ℕ} {s : Event} {ks : ℕ} {t : Event} {kt : �
       let copies : CopiesOutside K → ⊥ = λ o. no-24 0 (at_zero o) in
       let some-copies : K ≡ 0 → ⊥ = λ e. copies (no_copies e) in
       let few_copies : 100000 < K → ⊥ = λ l. copies (many_copies l) in
-      let there : At g K s ks = source_at_lem (at_of g s ks (dec_lt s.0 g.events) (dec_lt ks K)) in
+      let there : At g K s ks = source_at (at_of g s ks (dec_lt s.0 g.events) (dec_lt ks K)) in
       record {
         some_event = omega arith;
         few_events = omega arith;
@@ -283,9 +283,9 @@ module _ {g : ProcessGraph} {K : ℕ} {s : Event} {ks : ℕ} {t : Event} {kt : �
         target_there = target_at there (at_of g t kt (dec_lt t.0 g.events) (dec_lt kt K));
       }
     where
-      source_at_lem : (At g K s ks) ⊎ (At g K s ks → ⊥) → At g K s ks
-      source_at_lem (inl a) = a
-      source_at_lem (inr n) = absurd (no-4 0 (source_missing n))
+      source_at : (At g K s ks) ⊎ (At g K s ks → ⊥) → At g K s ks
+      source_at (inl a) = a
+      source_at (inr n) = absurd (no-4 0 (source_missing n))
 
       target_at : At g K s ks → (At g K t kt) ⊎ (At g K t kt → ⊥) → At g K t kt
       target_at h (inl a) = a

@@ -9,12 +9,11 @@
 --     plain_cast, put_plain_word, minus_full_word, put_minus_word      the same of words
 -- Assumes nothing.
 use mathlib.Core.Path.{◌≡◌, refl, ap, sym, subst, ◌∙◌}
-use mathlib.Core.Bool.{true, false}
 use mathlib.Core.List.{List, [], ◌∷◌, ◌++◌}
-use Prim.Native.Nat.{ℕ, suc, ◌+◌, ◌-◌, ◌/◌, ◌%◌, ◌^◌, ◌<◌, ◌≤◌}
+use Prim.Native.Nat.{ℕ, suc, ◌+◌, ◌/◌, ◌%◌, ◌^◌, ◌<◌, ◌≤◌}
 use native.Mathlib.Nat.{div-add-mod}
 use native.Mathlib.Omega.{arith}
-use lib.Dec.{T, lit<}
+use lib.Dec.{T}
 use lib.IntN.{ℤ, pos, negsuc, neg_ℤ, ◌+ℤ◌, ◌-ℤ◌, nat_abs}
 use lib.Signed.{◌<ℤ◌, non_neg}
 use lib.ListN.{length, length-append}
@@ -24,7 +23,7 @@ use mir.ValLaws.{to_z-of_z}
 use Rattle.integers.specs.Within.{Within}
 use Rattle.integers.proofs.Integer.{linear, sum, difference, negation}
 use Rattle.integers.proofs.Word.{within_fits, read_back}
-use Rattle.numerals.specs.Numbers.{Natural, Integer, plain, minus}
+use Rattle.numerals.specs.Numbers.{Natural, plain, minus}
 use Rattle.numerals.specs.Appending.{Appended, NaturalPut, IntegerPut}
 use Rattle.numerals.specs.Appending as appending
 use Rattle.numerals.proofs.Appends.{appended_more, appended_length, put_fits, put_full}

@@ -5,6 +5,8 @@
 //     put_natural, put_integer    a number written at a place, or no room
 // No caller is trusted: a place may lie beyond the end. Where there is no room nothing is written, and the place is given back. The promises are in
 // specs/Fields.antt and Appending.antt.
+#![tactic(auto)]
+
 ghost use Rattle.std.specs.Prelude.{◌≡◌, true, false, List, [], ◌∷◌, ℕ, ◌+◌, ◌<◌, ◌≤◌, pos, nat_abs, ◌<ℤ◌, length};
 ghost use Rattle.numerals.specs.Numbers.{Natural};
 ghost use Rattle.numerals.specs.Fields.{ByteAt, NumberAt, FieldAt};
@@ -12,7 +14,7 @@ ghost use Rattle.numerals.specs.Parts.Digits.{DigitAt};
 ghost use Rattle.numerals.specs.Appending.{Appended, Put, NaturalPut, IntegerPut};
 
 // Whether an event number stands at a place, which, and where it stops.
-#[derive(Drop)]
+#[derive(Clone, Copy)]
 pub struct EventField {
     pub right: bool,
     pub value: usize,
@@ -20,7 +22,7 @@ pub struct EventField {
 }
 
 // The same of a delay.
-#[derive(Drop)]
+#[derive(Clone, Copy)]
 pub struct DelayField {
     pub right: bool,
     pub value: i64,
@@ -165,8 +167,8 @@ fn places(x: usize) -> usize
 
 // Whether x fits so many places. A number has at most 20 digits.
 fn fits(x: usize, room: usize) -> bool
-    ensures bs_len_bound { result ≡ true → (bs : List ℕ) → Natural bs x → length bs ≤ room }
-    ensures room_in_bounds { result ≡ false → (bs : List ℕ) → Natural bs x → room < length bs }
+    ensures yes { result ≡ true → (bs : List ℕ) → Natural bs x → length bs ≤ room }
+    ensures no { result ≡ false → (bs : List ℕ) → Natural bs x → room < length bs }
 {
     if room >= 20 {
         return true;

@@ -1,33 +1,47 @@
 // The pair program: reads a text from standard input and writes the least and the greatest separation of every two events, or the refusal. Every byte it
-// writes comes from `text::write_pairs`, whose promise says which.
-use libc::{STDIN_FILENO, STDOUT_FILENO};
+// writes comes from `text::write_pairs`, whose promise says which. A read or a write that fails ends it with an error and the status 1.
+#![tactic(auto)]
 
-// Reads on and keeps nothing; whether there may be more.
-fn skip_chunk() -> bool {
-    let mut chunk = io::large_buffer();
-    io::read_full(STDIN_FILENO, &mut chunk) == 65536
-}
+ghost use Rattle.std.specs.Io.{ReadsAtMost};
 
-// Reads what is left of standard input, up to 4 GB, so that whoever writes it can end.
-fn skip_rest() {
-    let mut left: usize = 65536;
-    while left > 0 {
-        if !skip_chunk() {
+use std::io::{self, Read, Write};
+
+// Reads until the list is full or the input ends, and gives the number of bytes. A read that does not end the input gives at least one.
+fn fill(input: &mut impl Read, buffer: &mut [u8]) -> io::Result<usize>
+    ensures { ReadsAtMost result buffer.new }
+{
+    let mut done = 0;
+    for _ in 0..buffer.len() {
+        let count = input.read(&mut buffer[done..])?;
+        if count == 0 {
             break;
         }
-        left -= 1;
+        done += count;
     }
+    Ok(done)
+}
+
+// Reads what is left of the input, up to 4 GB, so that whoever writes it can end.
+fn skip_rest(input: &mut impl Read) -> io::Result<()> {
+    let mut chunk = [0u8; 65536];
+    for _ in 0..65536 {
+        if fill(input, &mut chunk)? < 65536 {
+            break;
+        }
+    }
+    Ok(())
 }
 
 // One byte more than a text may have is enough to refuse it. The list for the output is as long as `text::write_pairs` asks.
-fn main() {
+fn main(rt: HostRuntime) -> io::Result<()> {
+    let mut reader = rt.stdin();
     let mut input = [0u8; 32769];
-    let length = io::read_full(STDIN_FILENO, &mut input);
+    let length = fill(&mut reader, &mut input)?;
     if length > 32768 {
-        skip_rest();
+        skip_rest(&mut reader)?;
     }
     let mut out = [0u8; 131072];
     let answer = text::write_pairs(&input[..length], &mut out);
     let bytes = answer.bytes;
-    io::write_all(STDOUT_FILENO, &out[..bytes]);
+    rt.stdout().write_all(&out[..bytes])
 }

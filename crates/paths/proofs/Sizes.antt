@@ -1,5 +1,5 @@
 -- How large the numbers of paths and of their sets can be, from what they mean: each belongs to a path, and a path has fewer rules than there are events.
---     mostSum-within                  where each most delay lies within b, the sum of a path lies within b times its number of rules
+--     most_sum_within                  where each most delay lies within b, the sum of a path lies within b times its number of rules
 --     LimitWithin b c, PairWithin b c q   a limit lies within b, if it is a number; l and w of q within b and c
 --     m_within                        m lies within b × n, where there are at most n + 1 events
 --     pair_within                     so does the l of a path's pair, and its w, if it is a number, within twice that
@@ -21,7 +21,7 @@ use Rattle.integers.proofs.Word.{within_sum, within_wider, within_negation}
 use Rattle.graphs.specs.Graph.{Graph, rules, target, most}
 use Rattle.graphs.specs.Path.{Path, stay, step, steps}
 use Rattle.graphs.specs.Limits.{DelaysKept, SoundGraph}
-use Rattle.graphs.proofs.Paths.{leastSum-within}
+use Rattle.graphs.proofs.Paths.{least_sum_within}
 use Rattle.graphs.proofs.Rank.{short_path}
 use Rattle.executions.specs.Steps.{M}
 use Rattle.sets.specs.Limit.{Limit, number, unlimited, numbers, under, ◌+ᴸ◌, lesser}
@@ -50,12 +50,12 @@ use Rattle.paths.specs.Cap.{CapOf, at_m, no_m, Caps}
 use Rattle.paths.specs.PathPair.{path_pair, PathPairs}
 use Rattle.paths.proofs.PathPairs.{most_sum, path_pair_number}
 
-pub mostSum-within :
+pub most_sum_within :
     {g : Graph} {b : ℕ} → ((i : ℕ) → i < rules g → Within b (most g i))
     → {u v : ℕ} (p : Path g u v) → Within (b * steps p) (most_sum p)
-mostSum-within {b = b} within stay = record { above = omega (linear, negation (pos (b * 0))); below = omega linear }
-mostSum-within {b = b} within (step i h e f p) =
-    within_wider (omega (arith, mul-suc b (steps p))) (within_sum (within i h) (mostSum-within within p))
+most_sum_within {b = b} within stay = record { above = omega (linear, negation (pos (b * 0))); below = omega linear }
+most_sum_within {b = b} within (step i h e f p) =
+    within_wider (omega (arith, mul-suc b (steps p))) (within_sum (within i h) (most_sum_within within p))
 
 -- ---- a pair of a set that closes a family
 
@@ -116,10 +116,10 @@ module _ {g : Graph} (sound : SoundGraph g) {b n : ℕ} (few : g.events ≤ suc 
   pub m_within : {s v : ℕ} {x : ℤ} → s < g.events → M g s v x → Within (b * n) x
   m_within {s} {v} hs h =
       let (p, e) = h.reached in
-      subst (Within (b * n)) e (within_negation (within_wider (path_short p hs) (leastSum-within (λ i l. (delays i l).least_within) p)))
+      subst (Within (b * n)) e (within_negation (within_wider (path_short p hs) (least_sum_within (λ i l. (delays i l).least_within) p)))
 
   sum_within : {u v : ℕ} (p : Path g u v) → v < g.events → Within (b * n) (most_sum p)
-  sum_within p l = within_wider (path_short p l) (mostSum-within (λ i l. (delays i l).most_within) p)
+  sum_within p l = within_wider (path_short p l) (most_sum_within (λ i l. (delays i l).most_within) p)
 
   cap_within : {s v : ℕ} {c : Limit} → s < g.events → CapOf g s v c → LimitWithin (b * n) c
   cap_within hs (at_m x h) = number_within (m_within hs h)

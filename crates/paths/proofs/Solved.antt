@@ -82,7 +82,7 @@ module _ {g : Graph} {s t : ℕ} {cap : ℕ → Limit} {full : ℕ → List Pair
   no_path_cap never = sym (cap_found (no_m never))
 
   pub no_path_set : {v : ℕ} → (Path g v t → ⊥) → full v ≡ []
-  no_path_set never = sym (set_found (no_path_closes never))
+  no_path_set never = sym (set_found (no_path_closes cap never))
 
   events_caps : Caps g s cap
   events_caps = record { each = λ v l. solved.caps v }

@@ -65,6 +65,7 @@ module _ {g : Graph} {cap : ℕ → Limit} {t v : ℕ} where
                   rw e (lesser_more (+ᴸ-more (≤ᴸ-refl (cap (target g i))) (≤ᴸ-trans (≤ᴸ-of f) (numbers a l far))) high),
                 )
 
+module _ {g : Graph} (cap : ℕ → Limit) {t v : ℕ} where
   pub no_path_closes : (Path g v t → ⊥) → Closes [] (PathPairs g cap t v)
   no_path_closes never =
       record { ordered = none; covers = record { bound = λ l w is. absurd (never is.0); approached = λ p m. absurd (Memᴰ.not-nil m) } }

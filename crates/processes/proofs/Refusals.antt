@@ -21,7 +21,7 @@ use native.Mathlib.Decide.{ℕ_discrete}
 use native.Mathlib.Omega.{arith}
 use lib.ListN.{length}
 use Rattle.sequences.proofs.Lengths.{stable}
-use Rattle.verdicts.specs.Verdict.{given, passed, Accepted, FirstThen, FirstOf, AtZero, Lowest}
+use Rattle.verdicts.specs.Verdict.{given, passed, Accepted, FirstThen, FirstOf, Lowest}
 use Rattle.verdicts.proofs.Verdicts.{OnePlaces, Misses, NoneApplies, at_zero, misses_at_zero, holds_not, passed_all, none_accepted, accepted_none, lowest_unique, at_zero_unique, none_lowest, Alike, more_alike, alike_refl}
 use Rattle.graphs.specs.Graph.{Graph, graph_of}
 use Rattle.graphs.specs.Limits.{EndsKept, DelaysKept}

@@ -7,12 +7,11 @@
 --     verdict_unread         so are refusal and place: an entry for another mark is not checked
 --     answered_unread, written_unread    so are the whole answer and the lent lists: it is not read
 -- Assumes nothing.
-use mathlib.Core.Path.{◌≡◌, refl, sym, subst₂, ◌∙◌}
-use mathlib.Core.Logic.{◌⊎◌, inl, inr, ⊎_elim, ◌↔◌}
+use mathlib.Core.Path.{sym, subst₂, ◌∙◌}
+use mathlib.Core.Logic.{inl, inr, ⊎_elim, ◌↔◌}
 use mathlib.Core.List.{List}
-use Prim.Native.Nat.{ℕ, ◌*◌, ◌<◌}
+use Prim.Native.Nat.{ℕ, ◌<◌}
 use lib.IntN.{ℤ, pos}
-use lib.ListN.{length}
 use Rattle.integers.proofs.Integer.{linear, negation}
 use Rattle.verdicts.specs.Verdict.{Accepted, AtZero, Lowest}
 use Rattle.verdicts.proofs.Verdicts.{Alike, more_alike, none_alike, then_alike}
@@ -21,30 +20,8 @@ use Rattle.graphs.specs.Refusal.{OutsideDelays}
 use Rattle.refusals.proofs.Unique.{inside_not_outside}
 use Rattle.processes.specs.declared.Unfolded.{Unfolded}
 use Rattle.processes.specs.Process.{ProcessGraph, templates, target, occurrence, Node, root, at, Instance, together, onward, start}
-use Rattle.processes.specs.Unfolding.{
-  TemplatesOutside,
-  many_templates,
-  targets_differ,
-  leasts_differ,
-  mosts_differ,
-  marks_differ,
-  start_leasts_differ,
-  start_mosts_differ,
-  UnfoldingOutside,
-  no_copies,
-  many_occurrences,
-  many_rules,
-  UnknownTemplateEvent,
-  TemplateDelayOutside,
-  MarkOutside,
-  process_checks,
-  RuleAt,
-  Unfolds,
-  UnfoldingVerdict,
-  UnfoldingAnswered,
-  UnfoldingWritten,
-}
-use Rattle.processes.specs.Starts.{ZeroStarts, ZeroInstance, zero_together, zero_onward, zero_start, ZeroRuleAt, ZeroUnfolds, ZeroDelayOutside, restarted, StartsAlike}
+use Rattle.processes.specs.Unfolding.{TemplatesOutside, many_templates, targets_differ, leasts_differ, mosts_differ, marks_differ, start_leasts_differ, start_mosts_differ, UnfoldingOutside, no_copies, many_occurrences, many_rules, UnknownTemplateEvent, TemplateDelayOutside, MarkOutside, process_checks, Unfolds, UnfoldingVerdict, UnfoldingAnswered, UnfoldingWritten}
+use Rattle.processes.specs.Starts.{ZeroStarts, ZeroInstance, zero_together, zero_onward, zero_start, ZeroUnfolds, ZeroDelayOutside, restarted, StartsAlike}
 
 -- ---- all starts [0, 0]
 

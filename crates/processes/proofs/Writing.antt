@@ -10,7 +10,7 @@
 --     lists_refused, lists_written    what `unfold` promises of the lists
 -- Assumes nothing.
 use mathlib.Core.Path.{◌≡◌, refl, sym, ◌∙◌, ap, subst, subst₂}
-use mathlib.Core.Logic.{◌⊎◌, inl, inr}
+use mathlib.Core.Logic.{inl, inr}
 use mathlib.Core.List.{List}
 use Prim.Native.Nat.{ℕ, suc, ◌+◌, ◌*◌, ◌-◌, ◌<◌, ◌≤◌, zero-le}
 use native.Mathlib.Decide.{dec_lt, ℕ_discrete}
@@ -22,7 +22,7 @@ use Rattle.graphs.specs.Graph as rule
 use Rattle.graphs.specs.Graph.{Graph, graph_of}
 use Rattle.refusals.specs.Faults.{EndsKnown}
 use Rattle.processes.specs.declared.Unfolded.{Unfolded}
-use Rattle.processes.specs.Process.{ProcessGraph, templates, source, target, least, most, mark, start_least, start_most, occurrence, Node, root, at, Instance, together, onward, start}
+use Rattle.processes.specs.Process.{ProcessGraph, templates, source, target, least, most, mark, start_least, start_most, occurrence, root, at, Instance, together, onward, start}
 use Rattle.processes.specs.Unfolding.{RuleAt, Unfolds, UnfoldingWritten}
 use Rattle.processes.specs.Parts.Checks.{ProcessCountsKept, MarkKept, ProcessKept}
 use Rattle.processes.specs.Parts.Writing.{InstanceSource, InstanceDelay, InstanceWritten, InstancesWritten}
@@ -172,7 +172,7 @@ module _ {g : ProcessGraph} {K : ℕ} {ss₀ ts₀ : List ℕ} {ds₀ Ds₀ : Li
         rule_at
         (graph_of (1 + g.events * K) ss' ts' ds' Ds')
         i
-        (subst (InstanceSource g.events k (mark g j) (source g j).0) (sym (put_here ss ss' i r.s r.sources_set 0 (omega arith))) r.source_at_lem)
+        (subst (InstanceSource g.events k (mark g j) (source g j).0) (sym (put_here ss ss' i r.s r.sources_set 0 (omega arith))) r.source_at)
         (put_here ts ts' i r.t r.targets_set 0 (omega arith) ∙ r.target_at)
         (subst (InstanceDelay k (mark g j) (least g j) (start_least g j)) (sym (put_here ds ds' i r.d r.leasts_set (pos 0) (omega arith))) r.least_at)
         (subst (InstanceDelay k (mark g j) (most g j) (start_most g j)) (sym (put_here Ds Ds' i r.D r.mosts_set (pos 0) (omega arith))) r.most_at)

@@ -84,6 +84,7 @@ pub(crate) fn broken_mark(marks: &[usize]) -> usize
 }
 
 // The lowest template with mark 1 whose start interval is outside, or the number of templates. An entry of another mark is not read.
+#[tactic(auto, using(verdicts::proofs::Searches::passed_none, verdicts::proofs::Searches::passed_more, verdicts::proofs::Searches::lowest_here, verdicts::proofs::Searches::lowest_end))]
 pub(crate) fn outside_start(marks: &[usize], start_leasts: &[i64], start_mosts: &[i64]) -> usize
     requires { (length start_leasts.now ≡ length marks.now) × (length start_mosts.now ≡ length marks.now) }
     ensures { LowestOr (length marks.now) (StartKept marks.now start_leasts.now start_mosts.now) (StartBroken marks.now start_leasts.now start_mosts.now) result }

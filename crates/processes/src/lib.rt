@@ -1,6 +1,8 @@
 // Process graphs, and their unfolding into event graphs.
 //     unfold    K occurrences of each process event, and the rules between them, written into four lent lists
 // No caller is trusted: every list, length and number gets an answer. The promise is in specs/Unfolding.antt.
+#![tactic(auto)]
+
 ghost use Rattle.processes.specs.Process.{process_of};
 ghost use Rattle.processes.specs.Unfolding.{UnfoldingAnswered, ShortRuleLists, UnfoldingWritten};
 
@@ -12,15 +14,15 @@ use crate::input::{check_process, fewest};
 use crate::rules::write_rules;
 
 // A process event u, by its number.
-#[derive(Drop)]
+#[derive(Clone, Copy)]
 pub struct Event(pub usize);
 
 // An occurrence u_k, by its number in the event graph.
-#[derive(Drop)]
+#[derive(Clone, Copy)]
 pub struct Occurrence(pub usize);
 
 // The answer to an unfolding. `refusal` is 0, or the number of document 01's table, with its place; `events` and `rules` count what was written.
-#[derive(Drop)]
+#[derive(Clone, Copy)]
 pub struct Unfolded {
     pub refusal: usize,
     pub place: usize,

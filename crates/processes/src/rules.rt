@@ -66,9 +66,9 @@ fn write_rule(
     out_leasts: &mut [i64],
     out_mosts: &mut [i64],
 )
-    requires targets_len { (length targets.now ≡ length sources.now) × (length leasts.now ≡ length sources.now) × (length mosts.now ≡ length sources.now) × (length marks.now ≡ length sources.now) × (length start_leasts.now ≡ length sources.now) × (length start_mosts.now ≡ length sources.now) × (length sources.now ≤ 4096) × (j < length sources.now) }
-    requires j_bound { (k * p + get_or sources.now j 0 < 1024) × (k * p + get_or targets.now j 0 < 1024) }
-    requires i_bound { (i < 4096) × (i < length out_sources.old) × (i < length out_targets.old) × (i < length out_leasts.old) × (i < length out_mosts.old) }
+    requires lengths { (length targets.now ≡ length sources.now) × (length leasts.now ≡ length sources.now) × (length mosts.now ≡ length sources.now) × (length marks.now ≡ length sources.now) × (length start_leasts.now ≡ length sources.now) × (length start_mosts.now ≡ length sources.now) × (length sources.now ≤ 4096) × (j < length sources.now) }
+    requires occurrences { (k * p + get_or sources.now j 0 < 1024) × (k * p + get_or targets.now j 0 < 1024) }
+    requires in_bounds { (i < 4096) × (i < length out_sources.old) × (i < length out_targets.old) × (i < length out_leasts.old) × (i < length out_mosts.old) }
     ensures { InstanceWritten (process_of p sources.now targets.now leasts.now mosts.now marks.now start_leasts.now start_mosts.now) k j i out_sources.old out_targets.old out_leasts.old out_mosts.old out_sources.new out_targets.new out_leasts.new out_mosts.new }
 {
     let mark = marks[j];

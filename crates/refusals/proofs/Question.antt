@@ -5,7 +5,7 @@
 --     QuestionKept b g s t, none_kept, question_kept    what is kept where none applies
 --     kept_none, kept_accepted             and that none applies where it is kept
 -- Assumes nothing.
-use mathlib.Core.Path.{◌≡◌, refl, sym}
+use mathlib.Core.Path.{◌≡◌}
 use mathlib.Core.List.{List}
 use Prim.Native.Nat.{ℕ, ◌<◌, ◌≤◌, min}
 use native.Mathlib.Omega.{arith}

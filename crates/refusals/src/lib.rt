@@ -6,6 +6,8 @@
 //     check_counts     refusal 21 or 22, where a count of a graph is outside its limits
 //     check_input      the first of the refusals 21, 22 and 2 to 4 that applies to a question about two events
 // No caller is trusted: a search looks at lists of different lengths as far as both go. The promises are in specs/.
+#![tactic(auto)]
+
 ghost use Rattle.std.specs.Prelude.{◌≡◌, ◌≤◌, min, length};
 ghost use Rattle.verdicts.specs.Verdict.{LowestOr, FirstOf};
 ghost use Rattle.graphs.specs.Graph.{graph_of};
@@ -27,13 +29,14 @@ const MAX_DELAY: usize = 1000000;
 const MAX_ROUNDED: usize = 1001000;
 
 // A refusal: a number of document 01's table, with its place. The number 0 says that there is none.
-#[derive(Drop)]
+#[derive(Clone, Copy)]
 pub struct Refusal {
     pub number: usize,
     pub place: usize,
 }
 
 // The lowest entry whose source or target is not below n, or the number of entries.
+#[tactic(auto, using(verdicts::proofs::Searches::passed_none, verdicts::proofs::Searches::passed_more, verdicts::proofs::Searches::lowest_here, verdicts::proofs::Searches::lowest_end))]
 pub fn unknown_event(n: usize, sources: &[usize], targets: &[usize]) -> usize
     ensures { LowestOr (min (length sources.now) (length targets.now)) (EndsKnown n sources.now targets.now) (EndUnknown n sources.now targets.now) result }
 {

@@ -4,6 +4,8 @@
 //     round_up        the least multiple that is not below it
 //     round_delays    both bounds of each rule's interval, or the refusal with its place
 // No caller is trusted: every list, length and number gets an answer. The promises are in specs/Promise.antt.
+#![tactic(auto)]
+
 ghost use Rattle.std.specs.Prelude.{◌≡◌, true, false, ◌⊎◌, ℕ, ◌<◌, ◌≤◌, pos, length, get_or};
 ghost use Rattle.integers.specs.Within.{Within};
 ghost use Rattle.sequences.specs.Filled.{Filled};
@@ -19,8 +21,8 @@ const MAX_DELAY: i64 = 1000000;
 
 // Whether q is 0 or above 1,000.
 fn step_outside(q: usize) -> bool
-    ensures step_outside { result ≡ true → StepOutside q q }
-    ensures le_q { result ≡ false → (1 ≤ q) × (q ≤ 1000) }
+    ensures yes { result ≡ true → StepOutside q q }
+    ensures no { result ≡ false → (1 ≤ q) × (q ≤ 1000) }
 {
     if q == 0 {
         return true;
@@ -60,8 +62,8 @@ fn up(x: i64, step: usize) -> i64
 
 // Whether `step` is a step, and `x` lies where a delay may.
 fn roundable(x: i64, step: usize) -> bool
-    ensures roundable { result ≡ true → Roundable step x }
-    ensures fact { result ≡ false → Roundable step x → ⊥ }
+    ensures yes { result ≡ true → Roundable step x }
+    ensures no { result ≡ false → Roundable step x → ⊥ }
 {
     if step_outside(step) {
         return false;
@@ -94,8 +96,8 @@ pub fn round_up(x: i64, step: usize) -> i64
 
 // Whether a lent list of `low` or of `high` places is too short for so many delays.
 fn too_short(delays: usize, low: usize, high: usize) -> bool
-    ensures fact { result ≡ true → (low < delays) ⊎ (high < delays) }
-    ensures delays_le_low { result ≡ false → (delays ≤ low) × (delays ≤ high) }
+    ensures yes { result ≡ true → (low < delays) ⊎ (high < delays) }
+    ensures no { result ≡ false → (delays ≤ low) × (delays ≤ high) }
 {
     if low < delays {
         return true;
@@ -108,10 +110,10 @@ fn too_short(delays: usize, low: usize, high: usize) -> bool
 
 // Both bounds of each rule's interval, rounded outward.
 fn round_lists(step: usize, leasts: &[i64], mosts: &[i64], low: &mut [i64], high: &mut [i64])
-    requires le_step { (1 ≤ step) × (step ≤ 1000) × (length mosts.now ≡ length leasts.now) × (length leasts.now ≤ length low.old) × (length leasts.now ≤ length high.old) }
-    requires by_index { (i : ℕ) → i < length leasts.now → Within 1000000 (get_or leasts.now i (pos 0)) × Within 1000000 (get_or mosts.now i (pos 0)) }
-    ensures filled { Filled (pos 0) (length leasts.now) (λ i. Down step (get_or leasts.now i (pos 0))) low.old low.new }
-    ensures filled_2 { Filled (pos 0) (length leasts.now) (λ i. Up step (get_or mosts.now i (pos 0))) high.old high.new }
+    requires in_bounds { (1 ≤ step) × (step ≤ 1000) × (length mosts.now ≡ length leasts.now) × (length leasts.now ≤ length low.old) × (length leasts.now ≤ length high.old) }
+    requires inside { (i : ℕ) → i < length leasts.now → Within 1000000 (get_or leasts.now i (pos 0)) × Within 1000000 (get_or mosts.now i (pos 0)) }
+    ensures lows { Filled (pos 0) (length leasts.now) (λ i. Down step (get_or leasts.now i (pos 0))) low.old low.new }
+    ensures highs { Filled (pos 0) (length leasts.now) (λ i. Up step (get_or mosts.now i (pos 0))) high.old high.new }
 {
     let mut i = 0;
     while i < leasts.len() {

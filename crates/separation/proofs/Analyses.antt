@@ -2,7 +2,7 @@
 --     answer_refused    a refusal of the analysis is one of the answer: a list of 1,024 places is too short only where there are too many events
 --     answer_found      so is what it found, with U(t) read off the list
 -- Assumes nothing.
-use mathlib.Core.Path.{◌≡◌, refl, sym, subst, subst₂, ◌∙◌}
+use mathlib.Core.Path.{◌≡◌, sym, subst₂, ◌∙◌}
 use mathlib.Core.List.{List, [], ◌∷◌, ◌++◌}
 use Prim.Native.Nat.{ℕ, ◌<◌}
 use native.Mathlib.Omega.{arith}

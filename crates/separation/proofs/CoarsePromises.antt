@@ -8,7 +8,7 @@
 --     coarse_accepted         the coarse form accepts exactly what the exact form accepts, where q is from 1 to 1,000
 --     coarse_one              with q = 1 the coarse answer is the exact one, refusals too
 -- Assumes nothing.
-use mathlib.Core.Path.{◌≡◌, sym, ◌∙◌}
+use mathlib.Core.Path.{◌≡◌}
 use mathlib.Core.Logic.{◌↔◌}
 use mathlib.Core.List.{[], ◌∷◌}
 use Prim.Native.Nat.{ℕ, ◌<◌, ◌≤◌}

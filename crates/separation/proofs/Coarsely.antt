@@ -14,13 +14,13 @@ use mathlib.Core.List.{List, [], ◌∷◌}
 use Prim.Native.Nat.{ℕ, ◌<◌, ◌≤◌}
 use native.Mathlib.Omega.{arith}
 use lib.IntN.{ℤ, pos}
-use lib.ListN.{length, get_or, take}
+use lib.ListN.{length, take}
 use lib.Seq.{length-take-le, get_or-take}
 use Rattle.verdicts.specs.Verdict.{check, passed, Accepted, AtZero, Lowest, FirstOf}
-use Rattle.verdicts.proofs.Verdicts.{NoneApplies, none_alike, more_alike, then_alike, then_more, rest_of, passed_all, front_given, accepted_none}
-use Rattle.graphs.specs.Graph.{Graph, graph_of, rules}
+use Rattle.verdicts.proofs.Verdicts.{NoneApplies, none_alike, more_alike, then_alike, rest_of, passed_all, front_given, accepted_none}
+use Rattle.graphs.specs.Graph.{Graph, graph_of}
 use Rattle.graphs.specs.Path.{OnCycle}
-use Rattle.graphs.specs.Limits.{Sized, EventGraph}
+use Rattle.graphs.specs.Limits.{Sized}
 use Rattle.graphs.specs.Refusal.{Unreached, question_checks, question_checks_to, path_checks}
 use Rattle.refusals.specs.declared.Refusal.{Refusal}
 use Rattle.refusals.specs.Faults.{DelaysInside}
@@ -29,9 +29,9 @@ use Rattle.graphs.proofs.Limits.{sound_of}
 use Rattle.executions.specs.Separation.{Separation, SameRules}
 use Rattle.executions.proofs.Same.{same_exchanged, path_same, on_cycle_same, cycle_same, depth_same}
 use Rattle.executions.proofs.Schedules.{separation_of}
-use Rattle.rounding.specs.Rounding.{Down, Up, Rounded}
+use Rattle.rounding.specs.Rounding.{Rounded}
 use Rattle.rounding.specs.Promise.{StepOutside, ListsDiffer, ShortForDelays, EntryOutside, rounding_checks, DelaysRounded}
-use Rattle.rounding.proofs.Promises.{Room, lists_kept, inside_kept, step_kept}
+use Rattle.rounding.proofs.Promises.{lists_kept, inside_kept, step_kept}
 use Rattle.rounding.proofs.Costs.{rounded_sized}
 use Rattle.analysis.proofs.Arranging.{sized_up}
 use Rattle.separation.specs.declared.Answer.{Answer}

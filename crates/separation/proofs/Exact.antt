@@ -5,7 +5,6 @@
 --     lists_written         what `write_times` and `write_delays` wrote is the schedule
 -- Assumes nothing.
 use mathlib.Core.Path.{◌≡◌, refl, sym, subst, subst₂, ◌∙◌}
-use mathlib.Core.Logic.{◌⊎◌, inl, inr, ⊎_elim}
 use mathlib.Core.List.{List}
 use Prim.Native.Nat.{ℕ}
 use lib.IntN.{ℤ, pos}
@@ -14,7 +13,7 @@ use lib.ListN.{length}
 use Rattle.sequences.specs.Filled.{Filled}
 use Rattle.verdicts.specs.Verdict.{given, passed, FirstOf}
 use Rattle.verdicts.proofs.Verdicts.{at_zero}
-use Rattle.graphs.specs.Graph.{Graph, graph_of, rules}
+use Rattle.graphs.specs.Graph.{Graph, graph_of}
 use Rattle.graphs.specs.Limits.{CountsKept}
 use Rattle.graphs.specs.Refusal.{count_checks}
 use Rattle.graphs.proofs.Limits.{sound_of}

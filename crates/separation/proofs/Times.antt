@@ -2,7 +2,7 @@
 --     time_within               the times that `write_times` leaves are small
 --     rule_timed                so they are what `write_delays` asks of each rule
 -- Assumes nothing.
-use mathlib.Core.Path.{◌≡◌, sym, subst}
+use mathlib.Core.Path.{sym, subst}
 use mathlib.Core.List.{List}
 use Prim.Native.Nat.{ℕ, ◌<◌, ◌≤◌}
 use native.Mathlib.Omega.{arith}

@@ -8,7 +8,7 @@
 --     at xs v                   == what stands at place v of a list of times or delays
 --     Written g s a times₀ delays₀ times delays == what the two lent lists, which held times₀ and delays₀, hold after
 -- A reader of the promises needs this file, the files of graphs/specs and executions/specs that it names, and Coarse.antt. Assumes nothing.
-use Rattle.std.specs.Prelude.{◌≡◌, ◌⊎◌, List, ℕ, ◌<◌, ◌≤◌, ℤ, pos, length, get_or, drop}
+use Rattle.std.specs.Prelude.{◌≡◌, ◌⊎◌, List, ℕ, ◌<◌, ℤ, pos, length, get_or, drop}
 use Rattle.graphs.specs.Graph.{Graph, rules}
 use Rattle.graphs.specs.Path.{Depth}
 use Rattle.graphs.specs.Limits.{EventGraph}

@@ -3,6 +3,8 @@
 //     schedule      the same, with the whole latest schedule written into two lent lists
 //     coarse_separation    the separation of the graph whose delays are rounded outward to steps of q
 // No caller is trusted: every list, length and number gets an answer. The promises are in specs/Promise.antt and specs/Coarse.antt.
+#![tactic(auto)]
+
 ghost use Rattle.graphs.specs.Graph.{graph_of};
 ghost use Rattle.separation.specs.Promise.{Answered, ShortLists, Written};
 ghost use Rattle.separation.specs.Coarse.{CoarseAnswered};
@@ -20,7 +22,7 @@ const MAX_RULES: usize = 4096;
 const MAX_DELAY: usize = 1000000;
 
 // The answer to a question of separation. `refusal` is 0, or the number of document 01's table, with its place.
-#[derive(Drop)]
+#[derive(Clone, Copy)]
 pub struct Answer {
     pub refusal: usize,
     pub place: usize,

@@ -7,8 +7,8 @@ ghost use Rattle.separation.specs.Parts.Lists.{TimeAt, DelayAt, RuleTimed};
 
 // Whether a list of that many times, or of that many delays, is too short.
 pub(crate) fn too_short(times: usize, n: usize, delays: usize, rules: usize) -> bool
-    ensures fact { result ≡ true → (times < n) ⊎ (delays < rules) }
-    ensures value { (times < n) ⊎ (delays < rules) → result ≡ true }
+    ensures sound { result ≡ true → (times < n) ⊎ (delays < rules) }
+    ensures complete { (times < n) ⊎ (delays < rules) → result ≡ true }
 {
     if times < n {
         return true;
@@ -29,8 +29,8 @@ fn difference(x: i32, y: i32) -> i64
 
 // The time of each event, U(v) − U(root). `latest` holds U.
 pub(crate) fn write_times(n: usize, latest: &[i32], times: &mut [i64])
-    requires le_n { (1 ≤ n) × (n ≤ 1024) × (length latest.now ≡ 1024) × (n ≤ length times.old) }
-    requires by_index { (v : ℕ) → v < n → Within 2050048000 (get_or latest.now v (pos 0)) }
+    requires in_bounds { (1 ≤ n) × (n ≤ 1024) × (length latest.now ≡ 1024) × (n ≤ length times.old) }
+    requires within { (v : ℕ) → v < n → Within 2050048000 (get_or latest.now v (pos 0)) }
     ensures { Filled (pos 0) n (TimeAt latest.now) times.old times.new }
 {
     let root = latest[0];
@@ -58,8 +58,8 @@ pub(crate) fn write_delays(
     times: &[i64],
     delays: &mut [i64],
 )
-    requires targets_len { (length targets.now ≡ length sources.now) × (length mosts.now ≡ length sources.now) × (length sources.now ≤ 4096) × (length sources.now ≤ length delays.old) }
-    requires by_index { (i : ℕ) → i < length sources.now → RuleTimed sources.now targets.now mosts.now times.now i }
+    requires lengths { (length targets.now ≡ length sources.now) × (length mosts.now ≡ length sources.now) × (length sources.now ≤ 4096) × (length sources.now ≤ length delays.old) }
+    requires timed { (i : ℕ) → i < length sources.now → RuleTimed sources.now targets.now mosts.now times.now i }
     ensures { Filled (pos 0) (length sources.now) (DelayAt sources.now targets.now mosts.now times.now) delays.old delays.new }
 {
     let mut i = 0;

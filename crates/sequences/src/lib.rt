@@ -1,1 +1,2 @@
 // Lists and counting: definitions and laws only. See specs/ and proofs/.
+#![tactic(auto)]

@@ -2,7 +2,7 @@
 --     zip_length, zip_at       how long the list is, and which entry stands where
 --     member_at, member_in     what stands at a place of a list is a member, and each member stands at a place
 --     Lists C at n             C holds what stands at the places below n, and nothing else
---     candidates-listed        the candidates are what the code reads at the places below the least of the four lengths
+--     candidates_listed        the candidates are what the code reads at the places below the least of the four lengths
 -- Assumes nothing.
 use mathlib.Core.Path.{◌≡◌, refl, sym, ◌∙◌}
 use mathlib.Core.Bool.{Bool, false}
@@ -78,10 +78,10 @@ module _ (ls : List ℤ) (fs : List Bool) (ws : List ℤ) (gs : List Bool) where
   unfolding count
   long = omega (arith, zip_length pair (zip_with limit ls fs) (zip_with limit ws gs), zip_length limit ls fs, zip_length limit ws gs)
 
-  pub candidates-listed :
+  pub candidates_listed :
       (n : ℕ) → n ≡ min (min (length ls) (length fs)) (min (length ws) (length gs)) → Lists (candidates ls fs ws gs) (candidate_at ls fs ws gs) n
   unfolding count
-  candidates-listed n e =
+  candidates_listed n e =
       record {
         holds = λ i h. Memᴰ.cast (sym (stands i (omega arith))) (member_at (candidates ls fs ws gs) unit i (omega (arith, long)));
         only = λ p m. let (i, h, same) = member_in (candidates ls fs ws gs) unit p m in (i, omega (arith, long), same ∙ stands i (omega (arith, long)));

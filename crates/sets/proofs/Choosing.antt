@@ -1,6 +1,6 @@
 -- Laws of the choices of a selection, as the code makes them.
 --     below_never, below_always, below_numbers     whether a limit is below another, by their flags and numbers
---     below-back                                   the same of numbers read back from their bits
+--     below_back                                   the same of numbers read back from their bits
 --     prior_yes, prior_no, prior_of_w, prior_of_l  whether a pair goes before another, by three such tests
 --     left_first, left_by                          whether a pair is left to be selected
 --     better_first, better_new, better_old         which of two is the better
@@ -41,10 +41,10 @@ below_numbers a b false true e h = absurd (true≢false h)
 below_numbers a b true g e h = absurd (true≢false e)
 
 -- what is said of two numbers read back from their bits is said of the numbers
-pub below-back :
+pub below_back :
     {a b : ℤ} {r : Bool} (f g : Bool) → SFits w64 a → SFits w64 b → BelowChecked (limit (to_z w64 (of_z w64 a)) f) (limit (to_z w64 (of_z w64 b)) g) r
     → BelowChecked (limit a f) (limit b g) r
-below-back f g h k t = rw (to_z-of_z h, to_z-of_z k) at t
+below_back f g h k t = rw (to_z-of_z h, to_z-of_z k) at t
 
 -- ---- pairs
 

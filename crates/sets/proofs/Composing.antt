@@ -1,10 +1,10 @@
 -- Laws of the composition of two pairs, as the code forms it.
 --     held_limit_lem, plain_back              a limit made of its number and its flag, also where the number is read back from its bits
 --     far_never, far_by, near_number, near_limit    whether a limit is far, by its flag and a test of its number
---     sum_left, sum_right, sum-numbers    the sum of two limits, by their flags
+--     sum_left, sum_right, sum_numbers    the sum of two limits, by their flags
 --     lesser_second, lesser_first         the lesser of two limits, by a test
 --     l_far, w_far, step_far              where a limit that was to be added is far
---     composed-is                         where none is, what the code makes of the four limits is the composition
+--     composed_is                         where none is, what the code makes of the four limits is the composition
 -- Assumes nothing.
 use mathlib.Core.Path.{◌≡◌, refl, sym, ap, ◌∙◌, subst}
 use mathlib.Core.Bool.{Bool, true, false, true≢false}
@@ -14,7 +14,7 @@ use mir.Syntax.{w64}
 use mir.Val.{SFits, to_z, of_z}
 use mir.Facts.{to_z-of_z}
 use Rattle.integers.specs.Within.{Within}
-use Rattle.sets.specs.Limit.{Limit, number, unlimited, ◌≤ᴸ◌, ◌+ᴸ◌, lesser}
+use Rattle.sets.specs.Limit.{Limit, ◌≤ᴸ◌, ◌+ᴸ◌, lesser}
 use Rattle.sets.specs.Pair.{Pair, compose}
 use Rattle.sets.specs.Held.{numeral, limit, limit_of, held_limit, held_pair}
 use Rattle.sets.specs.Promise.{Near, Addable}
@@ -58,10 +58,10 @@ module _ (a b : ℤ) (f g : Bool) where
   pub sum_right : f ≡ false → g ≡ true → ◌≡◌ {A = HeldLimit} (record { number = pos 0; unlimited = true }) (held_limit (limit a f +ᴸ limit b g))
   sum_right e h = rw (e, h) refl
 
-  pub sum-numbers :
+  pub sum_numbers :
       (y : ℤ) → f ≡ false → g ≡ false → y ≡ a +ℤ b
       → ◌≡◌ {A = HeldLimit} (record { number = y; unlimited = false }) (held_limit (limit a f +ᴸ limit b g))
-  sum-numbers y e h same = rw (e, h, same) refl
+  sum_numbers y e h same = rw (e, h, same) refl
 
 -- ---- the lesser
 
@@ -109,13 +109,13 @@ module _ (p q : Pair) (e : HeldLimit) (r : Bool) (h : r ≡ true) (t : FarChecke
   pub step_far : e ≡ held_limit q.l → Addable p q → ⊥
   step_far is a = far_limit e q.l is (rw h at t) a.step_near
 
-pub composed-is :
+pub composed_is :
     (p q : Pair) (l w step cap long s high : HeldLimit)
     → l ≡ held_limit p.l → w ≡ held_limit p.w → step ≡ held_limit q.l → cap ≡ held_limit q.w
     → long ≡ held_limit (limit_of l +ᴸ limit_of step) → s ≡ held_limit (limit_of w +ᴸ limit_of step) → LesserIs s cap high
     → (a b : ℤ) → a ≡ long.number → b ≡ high.number
     → ◌≡◌ {A = HeldPair} (record { l = a; w = b; l_unlimited = long.unlimited; w_unlimited = high.unlimited }) (held_pair (compose p q))
-composed-is p q l w step cap long s high l_is w_is step_is cap-is long-is s-is high_is a b a-is b-is =
+composed_is p q l w step cap long s high l_is w_is step_is cap-is long-is s-is high_is a b a-is b-is =
     let step_back : limit_of step ≡ q.l = limits_back step q.l step_is in
     let l-back : limit_of l ≡ p.l = limits_back l p.l l_is in
     let w-back : limit_of w ≡ p.w = limits_back w p.w w_is in

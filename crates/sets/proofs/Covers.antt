@@ -1,7 +1,7 @@
 -- Sets that stand for one family of pairs.
 --     Beyond f C, beyond  a number above every number that f gives on the pairs of C; there is one
 --     covers_dominate     two lists that cover one family dominate each other: each pair of one is dominated by a pair of the other
---     mutual-same         two pruned sets that dominate each other are the same list
+--     mutual_same         two pruned sets that dominate each other are the same list
 --     closes_unique       two sets that close one family are the same list: "the fully pruned set" is one
 --     closes_length       and has one length
 --     part_covers         a part of a list that dominates all of it covers what the list covers
@@ -97,12 +97,12 @@ shared ordered there back p m =
     let same : p ≡ e.by = pruned_apart ordered p e.by m e.among (dominates_trans e.dominates d.dominates) in
     Memᴰ.cast (dominates_antisym d.dominates (subst (λ (x : Pair). Dominates x d.by) (sym same) e.dominates)) d.among
 
-pub mutual-same :
+pub mutual_same :
     {S T : List Pair} → Pruned S → Pruned T → ((p : Pair) → p ∈ S → Dominated T p) → ((p : Pair) → p ∈ T → Dominated S p) → S ≡ T
-mutual-same h k on back = pruned_same h k (shared h on back) (shared k back on)
+mutual_same h k on back = pruned_same h k (shared h on back) (shared k back on)
 
 pub closes_unique : {S T : List Pair} {P : Family} → Closes S P → Closes T P → S ≡ T
-closes_unique h k = mutual-same h.ordered k.ordered (covers_dominate h.covers k.covers) (covers_dominate k.covers h.covers)
+closes_unique h k = mutual_same h.ordered k.ordered (covers_dominate h.covers k.covers) (covers_dominate k.covers h.covers)
 
 pub closes_length : {S T : List Pair} {P : Family} → Closes S P → Closes T P → length S ≡ length T
 closes_length h k = ap length (closes_unique h k)
@@ -128,7 +128,7 @@ closes_prunes h k =
     }
 
 pub prunes_unique : {C S T : List Pair} → Prunes C S → Prunes C T → S ≡ T
-prunes_unique h k = mutual-same h.ordered k.ordered (λ p m. k.bound p (h.from p m)) (λ p m. h.bound p (k.from p m))
+prunes_unique h k = mutual_same h.ordered k.ordered (λ p m. k.bound p (h.from p m)) (λ p m. h.bound p (k.from p m))
 
 pub own_covers : (C : List Pair) → ((p : Pair) → p ∈ C → (a : ℤ) × (p.l ≡ number a)) → Covers C (Of C)
 own_covers C each =

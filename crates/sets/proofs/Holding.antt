@@ -1,9 +1,9 @@
 -- Laws of pairs and sets as the code holds them.
 --     numeral_unlimited, numeral_number    the number of a limit, by its flag
---     numeral-back                         the same of numbers read back from their bits
+--     numeral_back                         the same of numbers read back from their bits
 --     flag_back, limit_back, pair_back     what is held is read back
 --     pairs_back                           a set of at most 64 pairs is read back
---     held-pair                            a pair made of its two numbers and flags
+--     held_pair_lem                            a pair made of its two numbers and flags
 -- Assumes nothing.
 use mathlib.Core.Path.{◌≡◌, refl, sym, ◌∙◌}
 use mathlib.Core.Bool.{Bool, true, false, true≢false}
@@ -31,12 +31,12 @@ numeral_number a false e = refl
 numeral_number a true e = absurd (true≢false e)
 
 -- of a number that is read back from its bits, handed on and read back again
-pub numeral-back :
+pub numeral_back :
     (a z : ℤ) (f : Bool) → mag a < 2 ^ hbits w64 → mag z < 2 ^ hbits w64 → z ≡ numeral (limit (to_z w64 (of_z w64 a)) f)
     → to_z w64 (of_z w64 z) ≡ numeral (limit a f)
-numeral-back a z f h k e =
-    let read : to_z w64 (of_z w64 a) ≡ a = to_z-of_z (record { sfits = h }) in
-    to_z-of_z (record { sfits = k }) ∙ (rw read at e)
+numeral_back a z f h k e =
+    let read : to_z w64 (of_z w64 a) ≡ a = to_z-of_z {w = w64} (record { sfits = h }) in
+    to_z-of_z {w = w64} (record { sfits = k }) ∙ (rw read at e)
 
 pub flag_back : (a : ℤ) (f : Bool) → flag (limit a f) ≡ f
 flag_back a true = refl
@@ -49,10 +49,10 @@ limit_back unlimited = refl
 pub pair_back : (p : Pair) → pair_of (held_pair p) ≡ p
 pair_back p = pair_same (limit_back p.l) (limit_back p.w)
 
-pub held-pair :
+pub held_pair_lem :
     (a b x y : ℤ) (f g : Bool) → x ≡ numeral (limit a f) → y ≡ numeral (limit b g)
     → ◌≡◌ {A = HeldPair} (record { l = x; w = y; l_unlimited = f; w_unlimited = g }) (held_pair (pair (limit a f) (limit b g)))
-held-pair a b x y f g e h = λ i. record { l = e i; w = h i; l_unlimited = sym (flag_back a f) i; w_unlimited = sym (flag_back b g) i }
+held_pair_lem a b x y f g e h = λ i. record { l = e i; w = h i; l_unlimited = sym (flag_back a f) i; w_unlimited = sym (flag_back b g) i }
 
 map_back : (T : List Pair) → map pair_of (map held_pair T) ≡ T
 map_back [] = refl

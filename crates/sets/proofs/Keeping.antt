@@ -2,9 +2,9 @@
 --     Latest K some last        some says whether K has a pair, and last is the last of them, as it is held
 --     Keeping C room …          the kept pairs K are a beginning, room for them is there, and the array, the count and the pair kept last are K's
 --     keeping_start             nothing is kept
---     keeping-more              the pair that is selected next is kept
---     keeping-end               where nothing is left, what is kept is the answer
---     keeping-over              where a pair is left and there is no room, the answer is that there are more
+--     keeping_more              the pair that is selected next is kept
+--     keeping_end               where nothing is left, what is kept is the answer
+--     keeping_over              where a pair is left and there is no room, the answer is that there are more
 --     promised                  the room is what the code computed it to be
 -- That a candidate is left, by the test of its l, is that it comes after all kept pairs. Assumes nothing.
 use mathlib.Core.Path.{◌≡◌, refl, sym, ap, ◌∙◌, subst}
@@ -68,10 +68,10 @@ fill_more :
 fill_more u [] q m = refl
 fill_more u (p ∷ K) q m = ap (λ (xs : List HeldPair). held_pair p ∷ xs) (fill_more u K q m)
 
-places-more :
+places_more :
     (K : List Pair) (q : Pair) (pairs : List HeldPair) (count : ℕ) (e : HeldPair) → length K < 64 → pairs ≡ places K → count ≡ length K → e ≡ held_pair q
     → set pairs count e ≡ places (K ++ (q ∷ []))
-places-more K q pairs count e l listed counted is =
+places_more K q pairs count e l listed counted is =
     let rest : 64 - length K ≡ suc (64 - suc (length K)) = omega arith in
     let long : 64 - length (K ++ (q ∷ [])) ≡ 64 - suc (length K) = omega (arith, length-append K (q ∷ [])) in
     rw (listed, counted, is, rest, long) (fill_more (held_pair unit) K q (64 - suc (length K)))
@@ -98,25 +98,25 @@ module _ {C : List Pair} {at : ℕ → Pair} {n : ℕ} (lists : Lists C at n)
       → (i : ℕ) × (e ≡ held_pair (at i)) × Best at n some (pair_of last) i
   chosen_at found e same h = rw same at h
 
-  pub keeping-more :
+  pub keeping_more :
       (found : Found) (e : HeldPair) → Chosen at n some (pair_of last) found → found ≡ At e → count < room → room ≤ 64
       → Keeping C room (set pairs count e) (count + 1) true e
-  keeping-more found e h same l most =
+  keeping_more found e h same l most =
       let (i, is, best) = chosen_at found e same h in
       record {
         kept = k.kept ++ (at i ∷ []);
         front = front_step k.front (chosen_next i best);
         fits = omega (arith, length-append k.kept (at i ∷ []), k.counted);
         counted = omega (arith, length-append k.kept (at i ∷ []), k.counted);
-        listed = places-more k.kept (at i) pairs count e (omega (arith, k.counted)) k.listed k.counted is;
+        listed = places_more k.kept (at i) pairs count e (omega (arith, k.counted)) k.listed k.counted is;
         latest = last_is k.kept (at i) refl refl is;
       }
 
   -- nothing is left
-  pub keeping-end :
+  pub keeping_end :
       (found : Found) → Chosen at n some (pair_of last) found → found ≡ Nothing
       → PrunedTo C room (record { more = false; set = record { pairs = pairs; count = count } })
-  keeping-end found h same =
+  keeping_end found h same =
       let none : (j : ℕ) → j < n → Left some (pair_of last) (at j) → ⊥ = rw same at h in
       record {
         left = k.kept;
@@ -126,10 +126,10 @@ module _ {C : List Pair} {at : ℕ → Pair} {n : ℕ} (lists : Lists C at n)
       }
 
   -- one more is left than there is room for
-  pub keeping-over :
+  pub keeping_over :
       (found : Found) (e : HeldPair) (zero : PrunedSet) → Chosen at n some (pair_of last) found → found ≡ At e → room ≤ count → zero ≡ held pass_nothing
       → PrunedTo C room (record { more = true; set = zero })
-  keeping-over found e zero chosen same full is_zero =
+  keeping_over found e zero chosen same full is_zero =
       let (i, is, best) = chosen_at found e same chosen in
       let (T, h) = prune C in
       let longer : length (k.kept ++ (at i ∷ [])) ≤ length T = front_length (front_step k.front (chosen_next i best)) h in

@@ -44,6 +44,7 @@ pub <ᴸ-≤ᴸ : {a b : Limit} → a <ᴸ b → a ≤ᴸ b
 pub ≤ᴸ-<ᴸ-trans : {a b c : Limit} → a ≤ᴸ b → b <ᴸ c → a <ᴸ c
 ≤ᴸ-<ᴸ-trans (numbers a b h) (less b' c k) = less a c (omega linear)
 ≤ᴸ-<ᴸ-trans (numbers a b h) (finite b') = finite a
+≤ᴸ-<ᴸ-trans {a = a} {c = c} (under _) x4 = elim x4 [ ]
 
 pub <ᴸ-≤ᴸ-trans : {a b c : Limit} → a <ᴸ b → b ≤ᴸ c → a <ᴸ c
 <ᴸ-≤ᴸ-trans (less a b h) (numbers b' c k) = less a c (omega linear)
@@ -52,6 +53,7 @@ pub <ᴸ-≤ᴸ-trans : {a b c : Limit} → a <ᴸ b → b ≤ᴸ c → a <ᴸ c
 
 pub <ᴸ-not-≤ᴸ : {a b : Limit} → a <ᴸ b → b ≤ᴸ a → ⊥
 <ᴸ-not-≤ᴸ (less a b h) (numbers b' a' k) = omega linear
+<ᴸ-not-≤ᴸ (finite a) x4 = elim x4 [ ]
 
 pub data Compared (a b : Limit) : Type 0 where
   at_most : a ≤ᴸ b → Compared a b

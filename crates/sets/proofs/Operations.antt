@@ -3,8 +3,8 @@
 --     nothing_covers      pass-nothing covers the family of no pair
 --     everything_covers   pass-everything covers the family of the unit alone
 --     join_covers         two covers joined cover either family
---     compose-covers      two covers composed cover the one family and then the other
--- The argument for compose-covers. That no pair is above C is monotony. To come near the pair p ∘ q of C, with l of it at least N, one chooses N₁ for p and N₂
+--     compose_covers      two covers composed cover the one family and then the other
+-- The argument for compose_covers. That no pair is above C is monotony. To come near the pair p ∘ q of C, with l of it at least N, one chooses N₁ for p and N₂
 -- for q so that N₁ + N₂ is at least N and the cap of p ∘ q is not lost. Where l of q is a number, N₂ is that number. Where it is unlimited, w of q is a
 -- number v, since q is proper, and the cap of p ∘ q is at most v: N₂ is so great that w of p + N₂ is at least v. Assumes nothing.
 use mathlib.Core.Path.{◌≡◌, refl, ap}
@@ -126,9 +126,9 @@ split N p q (w_number v e) h = by q.l refl
     by (number b) f = rw f (split_number N p.l p.w b q.w (rw f at h))
     by unlimited f = rw (f, e) (split_unlimited N p.l p.w v)
 
-pub compose-covers :
+pub compose_covers :
     {A B C : List Pair} {P Q : Family} → Covers A P → Covers B Q → ((q : Pair) → q ∈ B → Proper q) → Composed A B C → Covers C (Then P Q)
-compose-covers {A} {B} {C} {P} {Q} h k proper j = record { bound = bounded; approached = approaching }
+compose_covers {A} {B} {C} {P} {Q} h k proper j = record { bound = bounded; approached = approaching }
   where
     bounded : (l : ℤ) (w : Limit) → Then P Q l w → Dominated C (pair (number l) w)
     bounded l w t =

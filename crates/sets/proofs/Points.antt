@@ -16,7 +16,7 @@ use Rattle.sets.specs.Pair.{Pair, pair, Proper, l_number, w_number, value}
 use Rattle.sets.specs.Set.{◌∈◌, SetValue, Pruned, Dominated}
 use Rattle.sets.proofs.Limits.{≤ᴸ-refl, ≤ᴸ-of, ≤ᴸ-trans, not_number, sum_under, lesser_left, lesser_right, lesser_greatest}
 use Rattle.sets.proofs.Pairs.{value_more}
-use Rattle.sets.proofs.Covers.{Beyond, beyond, mutual-same}
+use Rattle.sets.proofs.Covers.{Beyond, beyond, mutual_same}
 use Rattle.sets.proofs.Values.{set_value_exists}
 
 -- some pair of T is at least as high as p at x
@@ -29,9 +29,9 @@ pub dominated_below : {T : List Pair} {p : Pair} → Dominated T p → (x : ℤ)
 dominated_below d x = record { by = d.by; among = d.among; high = value_more d.dominates (≤ᴸ-refl (number x)) }
 
 -- a number z that p reaches at x is at most w of the pair above, and z − x at most its l
-at-point :
+at_point :
     {T : List Pair} {p : Pair} (x z : ℤ) (b : BelowAt T p x) → number z ≤ᴸ value p (number x) → (number (z -ℤ x) ≤ᴸ b.by.l) × (number z ≤ᴸ b.by.w)
-at-point x z b k =
+at_point x z b k =
     let q : Pair = b.by in
     let up : number z ≤ᴸ value q (number x) = ≤ᴸ-trans k b.high in
     (sum_under x z q.l (≤ᴸ-trans up (lesser_left (number x +ᴸ q.l) q.w)), ≤ᴸ-trans up (lesser_right (number x +ᴸ q.l) q.w))
@@ -42,7 +42,7 @@ module _ (T : List Pair) where
       let x : ℤ = b -ℤ a in
       let reached : number b ≤ᴸ value (pair (number a) (number b)) (number x) =
       lesser_greatest (numbers b (x +ℤ a) (omega (linear, difference b a, sum x a))) (≤ᴸ-refl (number b)) in
-      let (l-up, w-up) = at-point x b (h x) reached in
+      let (l-up, w-up) = at_point x b (h x) reached in
       record {
         by = (h x).by;
         among = (h x).among;
@@ -55,7 +55,7 @@ module _ (T : List Pair) where
       let z : ℤ = far.bar in
       let x : ℤ = z -ℤ a in
       let reached : number z ≤ᴸ value (pair (number a) unlimited) (number x) = numbers z (x +ℤ a) (omega (linear, difference z a, sum x a)) in
-      let (l-up, w-up) = at-point x z (h x) reached in
+      let (l-up, w-up) = at_point x z (h x) reached in
       record {
         by = (h x).by;
         among = (h x).among;
@@ -70,7 +70,7 @@ module _ (T : List Pair) where
   unlimited_l b h =
       let far : Beyond (λ p. p.l) T = beyond (λ p. p.l) T in
       let x : ℤ = b -ℤ far.bar in
-      let (l-up, w-up) = at-point x b (h x) (≤ᴸ-refl (number b)) in
+      let (l-up, w-up) = at_point x b (h x) (≤ᴸ-refl (number b)) in
       let up : number far.bar ≤ᴸ (h x).by.l = ≤ᴸ-trans (numbers far.bar (b -ℤ x) (omega (linear, difference b far.bar, difference b x))) l-up in
       record {
         by = (h x).by;
@@ -101,6 +101,6 @@ below (r ∷ S) proper same p m x =
 module _ {S T : List Pair} (proper : (q : Pair) → q ∈ S → Proper q) (proper' : (q : Pair) → q ∈ T → Proper q) where
   pub function_unique : Pruned S → Pruned T → ((x y : ℤ) → SetValue S x y → SetValue T x y) → ((x y : ℤ) → SetValue T x y → SetValue S x y) → S ≡ T
   function_unique h k on back =
-      mutual-same h k
+      mutual_same h k
       (λ p m. below_dominated T p (proper p m) (below S proper on p m))
       (λ p m. below_dominated S p (proper' p m) (below T proper' back p m))

@@ -3,8 +3,8 @@
 --     sum_fits, sum_back            a sum of two numbers within the bound fits, and its bits are read back as the sum
 --     both_unlimited, cap_alone_is, x_beyond, l_beyond, sum_is, sum_capped, sum_under_cap    the value of one pair, by its flags and tests
 --     greater_first, greater_new, greater_old, greater_outside     the greater of what was reached and a number
---     valued-more                   the value of one pair more
---     place-more, place_never, place_outside, place_end     the same along the places of an array, and at its end
+--     valued_more                   the value of one pair more
+--     place_more, place_never, place_outside, place_end     the same along the places of an array, and at its end
 -- Assumes nothing.
 use mathlib.Core.Path.{◌≡◌, refl, sym, ap, ◌∙◌, subst}
 use mathlib.Core.Bool.{Bool, true, false, cond, true≢false}
@@ -140,14 +140,14 @@ module _ (x : ℤ) where
       by (inl k) = each q k
       by (inr k) = subst (Summable x) (sym (mathlib.Core.List.Memᴰ.eq_of_singleton k)) new
 
-  pub valued-more :
+  pub valued_more :
       (T : List Pair) (p : Pair) (reached s : Reached) (y : ℤ) → Valued T x reached → PairValued p x (At y) → GreaterOf reached y s
       → Valued (T ++ (p ∷ [])) x s
-  valued-more T p (At z) s y (v, each) (is, new) g =
+  valued_more T p (At z) s y (v, each) (is, new) g =
       rw g (joined_value (append_joins T (p ∷ [])) v (one_value x y is), summable_more T p each new)
-  valued-more T p Nothing s y none (is, new) g =
+  valued_more T p Nothing s y none (is, new) g =
       rw (g, none) (one_value x y is, summable_more [] p (λ q m. absurd (mathlib.Core.List.Memᴰ.not-nil m)) new)
-  valued-more T p Outside s y (q, m, no-sum) (is, new) g = rw g (q, mathlib.Core.List.Memᴰ.append_left (p ∷ []) m, no-sum)
+  valued_more T p Outside s y (q, m, no-sum) (is, new) g = rw g (q, mathlib.Core.List.Memᴰ.append_left (p ∷ []) m, no-sum)
 
 -- ---- the places of an array, one after the other
 
@@ -156,14 +156,14 @@ member_map f (here e) = here (ap f e)
 member_map f (there m) = there (member_map f m)
 
 module _ (pairs : List HeldPair) (d : HeldPair) (x : ℤ) (i : ℕ) (within : i < length pairs) (v : Reached) (valued : PairValued (pair_of (get_or pairs i d)) x v) where
-  pub place-more :
+  pub place_more :
       (reached s : Reached) (y : ℤ) → Valued (map pair_of (take i pairs)) x reached → v ≡ At y → GreaterOf reached y s
       → Valued (map pair_of (take (i + 1) pairs)) x s
-  place-more reached s y before e g =
+  place_more reached s y before e g =
       let one : PairValued (pair_of (get_or pairs i d)) x (At y) = rw e at valued in
       let next : map pair_of (take (i + 1) pairs) ≡ map pair_of (take i pairs) ++ (pair_of (get_or pairs i d) ∷ []) =
       rw (add-one, take-suc pairs i d within, map-append pair_of) refl in
-      subst (λ (T : List Pair). Valued T x s) (sym next) (valued-more x (map pair_of (take i pairs)) (pair_of (get_or pairs i d)) reached s y before one g)
+      subst (λ (T : List Pair). Valued T x s) (sym next) (valued_more x (map pair_of (take i pairs)) (pair_of (get_or pairs i d)) reached s y before one g)
 
   pub place_never : v ≡ Nothing → ⊥
   place_never e = rw e at valued

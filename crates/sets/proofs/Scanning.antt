@@ -42,21 +42,21 @@ module _ (at : ℕ → Pair) (some : Bool) (last : Pair) where
   scan_gone i Nothing none gone = below_more (λ j. Left some last (at j) → ⊥) i none gone
 
   -- k is the best of those before i + 1 if it is of those before i, or is i, and may be selected before i
-  best-more :
+  best_more :
       (i k : ℕ) → k < i + 1 → Left some last (at k) → ((j : ℕ) → j < i → Left some last (at j) → Prior (at k) (at j)) → Prior (at k) (at i)
       → Best at (i + 1) some last k
-  best-more i k l left before now =
+  best_more i k l left before now =
       record { within = l; left = left; best = below_more (λ j. Left some last (at j) → Prior (at k) (at j)) i before (λ _. now) }
 
   chosen_at : (n k : ℕ) (p : HeldPair) (r : Found) → r ≡ At p → p ≡ held_pair (at k) → Best at n some last k → Chosen at n some last r
   chosen_at n k p r e is b = rw e (k, is, b)
 
-  scan-left :
+  scan_left :
       (i : ℕ) (found : Found) (p : HeldPair) (r : Found) → Chosen at i some last found → p ≡ held_pair (at i) → Left some last (at i) → Better found p r
       → Chosen at (i + 1) some last r
-  scan-left i Nothing p r none is left better =
-      chosen_at (i + 1) i p r better is (best-more i i (omega arith) left (λ j l h. absurd (none j l h)) (prior_refl (at i)))
-  scan-left i (At q) p r (k, was, b) is left better = by better
+  scan_left i Nothing p r none is left better =
+      chosen_at (i + 1) i p r better is (best_more i i (omega arith) left (λ j l h. absurd (none j l h)) (prior_refl (at i)))
+  scan_left i (At q) p r (k, was, b) is left better = by better
     where
       p_is : pair_of p ≡ at i
       p_is = read_back is
@@ -67,10 +67,10 @@ module _ (at : ℕ → Pair) (some : Bool) (last : Pair) where
       by : ((r ≡ At p) × Prior (pair_of p) (pair_of q)) ⊎ ((r ≡ At q) × Prior (pair_of q) (pair_of p)) → Chosen at (i + 1) some last r
       by (inl (e, h)) =
           let new : Prior (at i) (at k) = rw (p_is, q_is) at h in
-          chosen_at (i + 1) i p r e is (best-more i i (omega arith) left (λ j l m. prior_trans new (b.best j l m)) (prior_refl (at i)))
+          chosen_at (i + 1) i p r e is (best_more i i (omega arith) left (λ j l m. prior_trans new (b.best j l m)) (prior_refl (at i)))
       by (inr (e, h)) =
           let old : Prior (at k) (at i) = rw (p_is, q_is) at h in
-          chosen_at (i + 1) k q r e was (best-more i k (omega (arith, b.within)) b.left b.best old)
+          chosen_at (i + 1) k q r e was (best_more i k (omega (arith, b.within)) b.left b.best old)
 
   -- a turn of the scan: the test says whether candidate i, held as p, is left
   module _ (i : ℕ) (found : Found) (p : HeldPair) (b : Bool)
@@ -79,7 +79,7 @@ module _ (at : ℕ → Pair) (some : Bool) (last : Pair) where
     turn_gone e r same = rw same (scan_gone i found before ((left_back p is test).gone e))
 
     pub turn_left : b ≡ true → (better r : Found) → Better found p better → r ≡ better → Chosen at (i + 1) some last r
-    turn_left e better r h same = rw same (scan-left i found p better before is ((left_back p is test).left e) h)
+    turn_left e better r h same = rw same (scan_left i found p better before is ((left_back p is test).left e) h)
 
   pub scan_end : (i n : ℕ) (found : Found) → i ≡ n → Chosen at i some last found → Chosen at n some last found
   scan_end i n found e h = subst (λ (k : ℕ). Chosen at k some last found) e h

@@ -80,16 +80,16 @@ in_rest {q} {r} {T} before m = by (Memᴰ.cases_cons m)
     by (inr k) = k
 
 -- where p ∷ S lies within q ∷ T: if p is q, then S lies within T
-tails-within :
+tails_within :
     {p q : Pair} {S T : List Pair} → Ahead p S → Pruned S → ((r : Pair) → r ∈ (p ∷ S) → r ∈ (q ∷ T)) → p ≡ q
     → (r : Pair) → r ∈ S → r ∈ T
-tails-within ahead rest within e r m = in_rest (rw e at (all_after ahead rest r m)) (within r (there m))
+tails_within ahead rest within e r m = in_rest (rw e at (all_after ahead rest r m)) (within r (there m))
 
 -- and if p stands in T, then p ∷ S does
-whole-within :
+whole_within :
     {p q : Pair} {S T : List Pair} → Ahead p S → Pruned S → Ahead q T → Pruned T → ((r : Pair) → r ∈ (p ∷ S) → r ∈ (q ∷ T)) → p ∈ T
     → (r : Pair) → r ∈ (p ∷ S) → r ∈ T
-whole-within {p} {q} {S} {T} ahead rest next others within k r m = by (Memᴰ.cases_cons m)
+whole_within {p} {q} {S} {T} ahead rest next others within k r m = by (Memᴰ.cases_cons m)
   where
     by : (r ≡ p) ⊎ (r ∈ S) → r ∈ T
     by (inl e) = Memᴰ.cast e k
@@ -100,8 +100,8 @@ pruned_length none T within = zero-le
 pruned_length (first {p = p} ahead rest) none within = absurd (Memᴰ.not-nil (within p (here refl)))
 pruned_length (first {p = p} {T = S} ahead rest) (first {p = q} {T = T} next others) within =
     by
-    (λ e. pruned_length rest others (tails-within ahead rest within e))
-    (λ k. pruned_length (first ahead rest) others (whole-within ahead rest next others within k))
+    (λ e. pruned_length rest others (tails_within ahead rest within e))
+    (λ k. pruned_length (first ahead rest) others (whole_within ahead rest next others within k))
     (Memᴰ.cases_cons (within p (here refl)))
   where
     by : (p ≡ q → length S ≤ length T) → (p ∈ T → suc (length S) ≤ length T) → (p ≡ q) ⊎ (p ∈ T) → suc (length S) ≤ suc (length T)
@@ -114,7 +114,7 @@ pruned_same none (first {p = q} next others) within back = absurd (Memᴰ.not-ni
 pruned_same (first {p = p} ahead rest) none within back = absurd (Memᴰ.not-nil (within p (here refl)))
 pruned_same (first {p = p} {T = S} ahead rest) (first {p = q} {T = T} next others) within back =
     let e : p ≡ q = by (Memᴰ.cases_cons (within p (here refl))) (Memᴰ.cases_cons (back q (here refl))) in
-    let f : S ≡ T = pruned_same rest others (tails-within ahead rest within e) (tails-within next others back (sym e)) in
+    let f : S ≡ T = pruned_same rest others (tails_within ahead rest within e) (tails_within next others back (sym e)) in
     cc
   where
     by : (p ≡ q) ⊎ (p ∈ T) → (q ≡ p) ⊎ (q ∈ S) → p ≡ q

@@ -4,6 +4,8 @@
 //     PrunedSet::value_at                the value of a set at a number
 //     prune                              the pruned set of a list of candidates, or that it has too many pairs
 // Nothing is asked of the caller. The definitions are in specs/, their laws in proofs/.
+#![tactic(auto)]
+
 mod order;
 mod reach;
 mod scan;
@@ -19,7 +21,7 @@ use crate::scan::{Found, next_pair};
 use crate::sums::{far, lesser_limit, plain, sum};
 
 // A pair (l, w). Each of the two is a number, or unlimited where its flag is set; the number beside a flag that is set is 0.
-#[derive(Drop)]
+#[derive(Clone, Copy)]
 pub struct Pair {
     pub l: i64,
     pub w: i64,
@@ -42,7 +44,7 @@ pub struct Pruning {
 }
 
 // The value of a set at a number.
-#[derive(Drop)]
+#[derive(Clone, Copy)]
 pub enum Reached {
     // This number.
     At(i64),
@@ -53,7 +55,7 @@ pub enum Reached {
 }
 
 // Two pairs composed.
-#[derive(Drop)]
+#[derive(Clone, Copy)]
 pub enum Composition {
     // This pair.
     Made(Pair),

@@ -7,7 +7,7 @@ use crate::Pair;
 use crate::order::{left, prior};
 
 // What a scan of the candidates finds.
-#[derive(Drop)]
+#[derive(Clone, Copy)]
 pub(crate) enum Found {
     At(Pair),
     Nothing,

@@ -10,7 +10,7 @@ use crate::reach::beyond;
 use crate::scan::numeral_of;
 
 // A number, or unlimited where the flag is set; the number beside a flag that is set is 0.
-#[derive(Drop)]
+#[derive(Clone, Copy)]
 pub(crate) struct Limit {
     pub(crate) number: i64,
     pub(crate) unlimited: bool,

@@ -31,7 +31,6 @@ use Rattle.executions.specs.Separation.{Separation}
 use Rattle.executions.proofs.Sizes.{times_within}
 use Rattle.separation.specs.declared.Answer.{Answer}
 use Rattle.separation.specs.Promise.{at, Answered, Written, ShortLists}
-use Rattle.table.specs.declared.TableAnswer.{TableAnswer}
 use Rattle.table.specs.Table.{entry, RowFilled, RowsFilled, OthersKept, ShortTable, TableVerdict, TableAnswered}
 use Rattle.table.specs.Parts.Rows.{RowKept, RowCopied, RowAnswered}
 

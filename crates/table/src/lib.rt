@@ -2,6 +2,8 @@
 // what it promises.
 //     fill_table    the greatest t(t) − t(s) of every two events s and t, or the refusal with its place
 // No caller is trusted. The promise is in specs/Table.antt.
+#![tactic(auto)]
+
 ghost use Rattle.std.specs.Prelude.{◌≡◌, ℕ, ◌*◌, ◌<◌, ◌≤◌, pos, length, get_or};
 ghost use Rattle.integers.specs.Within.{Within};
 ghost use Rattle.graphs.specs.Graph.{graph_of};
@@ -24,8 +26,8 @@ pub struct TableAnswer {
 
 // Row `from` of the table: the time of each event after that of `from`. All other places keep what they held.
 fn copy_row(n: usize, from: usize, times: &[i64], table: &mut [i64])
-    requires from_lt_n { (from < n) × (n ≤ 64) × (length times.now ≡ 64) × (n * 64 ≤ length table.old) }
-    requires by_index { (v : ℕ) → v < n → Within 1023000000 (get_or times.now v (pos 0)) }
+    requires in_bounds { (from < n) × (n ≤ 64) × (length times.now ≡ 64) × (n * 64 ≤ length table.old) }
+    requires within { (v : ℕ) → v < n → Within 1023000000 (get_or times.now v (pos 0)) }
     ensures { RowCopied n from times.now table.old table.new }
 {
     let base = times[from];

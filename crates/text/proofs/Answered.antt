@@ -41,7 +41,7 @@ use Rattle.separation.specs.Promise.{Verdict, Found}
 use Rattle.separation.proofs.Promises.{SameValues, answers_agree}
 use Rattle.text.specs.Grammar.{Rule, Text}
 use Rattle.text.specs.Reading.{events, sources_of, targets_of, graph_of_rules, text_checks, TextVerdict}
-use Rattle.text.specs.Answers.{NoLists, TextAnswered, entryNumber, Entered}
+use Rattle.text.specs.Answers.{NoLists, TextAnswered, entry_number, Entered}
 use Rattle.text.specs.Output.{ending, pairs, Lines, pair_header, PairsVerdict, Output, table, refused, RefusedLine, ShortOutput, PairsWritten}
 use Rattle.text.specs.declared.PairsAnswer.{PairsAnswer}
 use Rattle.text.proofs.Texts.{text_unique}
@@ -84,7 +84,7 @@ module _ {bs : List ℕ} {s t : ℕ} where
 
   pub entered_unique : {x y : ℤ} → Entered bs s t x → Entered bs s t y → x ≡ y
   entered_unique a b =
-      a.number ∙ ap (λ (c : Answer). entryNumber c.refusal c.separation) (text_answer_unique a.answered b.answered) ∙ sym b.number
+      a.number ∙ ap (λ (c : Answer). entry_number c.refusal c.separation) (text_answer_unique a.answered b.answered) ∙ sym b.number
 
 -- ---- what the pair program writes
 
@@ -233,11 +233,11 @@ found_within x e =
     let (rs, text, f) = x.found e in
     exact_size f.graph f.source_known f.target_known f.greatest
 
-number_found : (j : ℕ) (x : ℤ) → j ≡ 0 → entryNumber j x ≡ x
+number_found : (j : ℕ) (x : ℤ) → j ≡ 0 → entry_number j x ≡ x
 number_found zero x e = refl
 number_found (suc j) x e = absurd (let no : ⊥ = omega arith in no)
 
-number_refused : (j : ℕ) (x : ℤ) → (j ≡ 0 → ⊥) → entryNumber j x ≡ neg_ℤ (pos (4000000000 + j))
+number_refused : (j : ℕ) (x : ℤ) → (j ≡ 0 → ⊥) → entry_number j x ≡ neg_ℤ (pos (4000000000 + j))
 number_refused zero x n = absurd (n refl)
 number_refused (suc j) x n = refl
 

@@ -7,7 +7,7 @@ use mathlib.Core.Logic.{◌⊎◌, inl, inr}
 use Prim.Native.Nat.{ℕ, ◌<◌, ◌≤◌}
 use native.Mathlib.Omega.{arith}
 use Rattle.verdicts.specs.Verdict.{given, passed, Accepted, FirstOf}
-use Rattle.verdicts.proofs.Verdicts.{NoneApplies, at_zero, misses_at_zero, holds_not, none_accepted, accepted_none}
+use Rattle.verdicts.proofs.Verdicts.{at_zero, misses_at_zero, holds_not, none_accepted, accepted_none}
 use Rattle.text.specs.Parts.Scanning.{reading_checks}
 
 pub record CountsRight (n r sources targets leasts mosts : ℕ) : Type 0 where

@@ -10,7 +10,7 @@
 --     few_taken       what is taken of a list is as short as what was asked
 --     text_unread, text_answered      what is promised of a separation asked of a text
 -- Assumes nothing.
-use mathlib.Core.Path.{◌≡◌, refl, sym, subst, subst₂, ◌∙◌}
+use mathlib.Core.Path.{◌≡◌, sym, subst, subst₂, ◌∙◌}
 use mathlib.Core.Logic.{inl, inr}
 use mathlib.Core.List.{List, [], ◌∷◌}
 use Prim.Native.Nat.{ℕ, ◌<◌, ◌≤◌}

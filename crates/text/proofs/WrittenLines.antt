@@ -1,6 +1,6 @@
 -- Laws of the lines written into a lent list.
 --     refused_put                  the line of a refusal
---     line-put                     the line of a pair
+--     line_put                     the line of a pair
 --     RowGoing, row-…              the lines of the pairs with one `from`, while they are written
 --     TableGoing, table-…          all lines, while they are written
 -- Assumes nothing.
@@ -91,7 +91,7 @@ module _ {o : List ℕ} (at s t : ℕ) (least most : ℤ) {m₁ m₂ m₃ m₄ m
   )
 
   -- each field takes at most its places, so there is room for the next
-  pub line-put :
+  pub line_put :
       (s < 100) × (t < 100) × Within 2046000000 least × Within 2046000000 most × (at + 31 ≤ length o) →
       NaturalPut o at s m₁ a₁ →
       Put m₁ a₁ (44 ∷ []) m₂ a₂ →
@@ -102,7 +102,7 @@ module _ {o : List ℕ} (at s t : ℕ) (least most : ℤ) {m₁ m₂ m₃ m₄ m
       IntegerPut m₆ a₆ (word most) m₇ a₇ →
       Put m₇ a₇ ending m₈ a₈ →
       LinePut o at s t least most m₈ a₈
-  line-put (s-small, t-small, least-small, most-small, room) w₁ w₂ w₃ w₄ w₅ w₆ w₇ w₈ = from_on (natural_in 2 (omega arith) (omega arith) (omega arith) w₁)
+  line_put (s-small, t-small, least-small, most-small, room) w₁ w₂ w₃ w₄ w₅ w₆ w₇ w₈ = from_on (natural_in 2 (omega arith) (omega arith) (omega arith) w₁)
     where
       most_on : NaturalIn 2 o at s m₁ a₁ → Marked o at 3 m₁ a₁ (44 ∷ []) m₂ a₂ → NaturalIn 2 m₂ a₂ t m₃ a₃ → Marked m₂ a₂ 3 m₃ a₃ (44 ∷ []) m₄ a₄ →
           IntegerIn 11 m₄ a₄ least m₅ a₅ → Marked m₄ a₄ 12 m₅ a₅ (44 ∷ []) m₆ a₆ → IntegerIn 11 m₆ a₆ most m₇ a₇ → LinePut o at s t least most m₈ a₈

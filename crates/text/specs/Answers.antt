@@ -2,7 +2,7 @@
 -- pair program"; demands 1 and 2.
 --     NoLists               == no list is lent
 --     TextAnswered bs s t a == a is the answer to s and t on the graph of the text bs, or the refusal
---     entryNumber k x       == the C entry's number for refusal k, 0 being none, and separation x
+--     entry_number k x       == the C entry's number for refusal k, 0 being none, and separation x
 --     Entered bs s t z      == z is the C entry's number
 -- Assumes nothing.
 use Rattle.std.specs.Prelude.{◌≡◌, List, ℕ, zero, suc, ◌+◌, ℤ, pos, neg_ℤ}
@@ -21,11 +21,11 @@ pub record TextAnswered (bs : List ℕ) (s t : ℕ) (a : Answer) : Type 0 where
   pub nothing : (a.refusal ≡ 0 → ⊥) → Nothing a
 
 -- "the separation, or −4,000,000,000 minus the refusal number"
-abbrev pub entryNumber : ℕ → ℤ → ℤ
-entryNumber zero x = x
-entryNumber (suc k) x = neg_ℤ (pos (4000000000 + suc k))
+abbrev pub entry_number : ℕ → ℤ → ℤ
+entry_number zero x = x
+entry_number (suc k) x = neg_ℤ (pos (4000000000 + suc k))
 
 pub record Entered (bs : List ℕ) (s t : ℕ) (z : ℤ) : Type 0 where
   pub answer : Answer
   pub answered : TextAnswered bs s t answer
-  pub number : z ≡ entryNumber answer.refusal answer.separation
+  pub number : z ≡ entry_number answer.refusal answer.separation

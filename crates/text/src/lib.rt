@@ -4,6 +4,8 @@
 //     text_separation      the separation of two events of a text's graph
 //     write_pairs          what the pair program writes for a text
 // No caller is trusted. The grammar is in specs/Grammar.antt, the promises are in specs/Reading.antt, Answers.antt and Output.antt.
+#![tactic(auto)]
+
 ghost use Rattle.std.specs.Prelude.{◌≡◌, List, ℕ, ◌≤◌, length};
 ghost use Rattle.separation.specs.Promise.{Nothing};
 ghost use Rattle.text.specs.Reading.{ReadOff, RulesWritten, ShortForRules};
@@ -22,7 +24,7 @@ use crate::scan::{check_counts, refused, scan};
 use separation::Answer;
 
 // The answer to a reading. `refusal` is 0, or the number of document 01's table, with its place; `events` and `rules` count what was read.
-#[derive(Drop)]
+#[derive(Clone, Copy)]
 pub struct Reading {
     pub refusal: usize,
     pub place: usize,
@@ -32,7 +34,7 @@ pub struct Reading {
 
 // The answer to a writing of the pairs. `refusal` is 0, or 23 for a lent list that is too short, with its place; `bytes` counts what was written. A text
 // that is refused is none of its refusals: the line that says so is what was written.
-#[derive(Drop)]
+#[derive(Clone, Copy)]
 pub struct PairsAnswer {
     pub refusal: usize,
     pub place: usize,

@@ -61,8 +61,8 @@ fn put_pairs_from(out: &mut [u8], at: usize, n: usize, from: usize, table: &[i64
 
 // The header and the line of every pair.
 pub(crate) fn put_pairs(out: &mut [u8], n: usize, table: &[i64]) -> usize
-    requires output_places_in_bounds { (output_places ≤ length out.old) × (n ≤ 64) × (length table.now ≡ 4096) }
-    requires events_value { (g : Graph) × (g.events ≡ n) × EventGraph 1000000 g × RowsFilled g n table.now }
+    requires in_bounds { (output_places ≤ length out.old) × (n ≤ 64) × (length table.now ≡ 4096) }
+    requires graph { (g : Graph) × (g.events ≡ n) × EventGraph 1000000 g × RowsFilled g n table.now }
     ensures { (g : Graph) → g.events ≡ n → EventGraph 1000000 g → RowsFilled g n table.now → (bs : List ℕ) × Lines g (pairs n) bs × Appended out.old 0 (pair_header ++ (ending ++ bs)) out.new result }
 {
     let mut at = put_bytes(out, 0, b"from,to,least,most\r\n");

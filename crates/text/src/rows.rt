@@ -7,7 +7,7 @@ ghost use Rattle.text.specs.Parts.Fields.{EndAt, PartAt, Comma, Closing};
 use numerals::{DelayField, EventField, byte_at, delay_field, event_field};
 
 // Whether a row of a rule stands at a place, which rule, and where it stops.
-#[derive(Drop)]
+#[derive(Clone, Copy)]
 pub(crate) struct RuleRow {
     pub(crate) right: bool,
     pub(crate) source: usize,

@@ -13,7 +13,7 @@ pub(crate) fn write_rules(
     leasts: &mut [i64],
     mosts: &mut [i64],
 )
-    requires text_len_bound { length text.now ≤ 32768 }
+    requires small { length text.now ≤ 32768 }
     requires text { (rs : List Rule) × Text text.now rs × (length rs ≤ length sources.old) × (length rs ≤ length targets.old) × (length rs ≤ length leasts.old) × (length rs ≤ length mosts.old) }
     ensures { (rs : List Rule) → Text text.now rs → ListsHold rs sources.old targets.old leasts.old mosts.old sources.new targets.new leasts.new mosts.new }
 {

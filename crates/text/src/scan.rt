@@ -52,8 +52,8 @@ pub(crate) fn check_counts(
 
 // Whether a list of bytes begins with another.
 fn begins_with(text: &[u8], prefix: &[u8]) -> bool
-    ensures text_value { result ≡ true → text.now ≡ prefix.now ++ drop (length prefix.now) text.now }
-    ensures fact { result ≡ false → (rest : List ℕ) → text.now ≡ prefix.now ++ rest → ⊥ }
+    ensures yes { result ≡ true → text.now ≡ prefix.now ++ drop (length prefix.now) text.now }
+    ensures no { result ≡ false → (rest : List ℕ) → text.now ≡ prefix.now ++ rest → ⊥ }
 {
     if text.len() < prefix.len() {
         return false;

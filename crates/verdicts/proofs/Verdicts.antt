@@ -1,7 +1,7 @@
 -- Laws of verdicts, over any list of checks and any Rest.
 --     OnePlace At, OnePlaces cs        At holds of one place at most; each check of the list does
 --     OneVerdict Rest                  Rest gives one number and place at most
---     at-zero                          what holds, holds at place 0
+--     at_zero                          what holds, holds at place 0
 --     lowest_unique, at_zero_unique    the lowest place is one; place 0 is one
 --     accepted_unique, then_unique     a list each of whose checks has one place gives one number and place, where Rest does
 --     one_verdict                      and where nothing is left to Rest

@@ -1,1 +1,2 @@
 // Verdicts: definitions and laws only. See specs/ and proofs/.
+#![tactic(auto)]

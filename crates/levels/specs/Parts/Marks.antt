@@ -8,9 +8,9 @@ use Rattle.processes.specs.Process.{templates, source, target, mark, ProcessGrap
 
 pub record MarkZeroRules (g : ProcessGraph) (h : Graph) : Type 0 where
   pub events_same : h.events ≡ g.events
-  pub of-template :
+  pub of_template :
       (i : ℕ) → i < rules h
       → (j : ℕ) × (j < templates g) × (mark g j ≡ 0) × (rule.source h i ≡ (source g j).0) × (rule.target h i ≡ (target g j).0)
-  pub has-rule :
+  pub has_rule :
       (j : ℕ) → j < templates g → mark g j ≡ 0
       → (i : ℕ) × (i < rules h) × (rule.source h i ≡ (source g j).0) × (rule.target h i ≡ (target g j).0)

@@ -28,7 +28,7 @@ pub record InstanceWritten (g : ProcessGraph) (k j i : ℕ) (ss₀ ts₀ : List 
   pub targets_set : ts ≡ set ts₀ i t
   pub leasts_set : ds ≡ set ds₀ i d
   pub mosts_set : Ds ≡ set Ds₀ i D
-  pub source_at_lem : InstanceSource g.events k (mark g j) (source g j).0 s
+  pub source_at : InstanceSource g.events k (mark g j) (source g j).0 s
   pub target_at : t ≡ (occurrence g k (target g j)).0
   pub least_at : InstanceDelay k (mark g j) (least g j) (start_least g j) d
   pub most_at : InstanceDelay k (mark g j) (most g j) (start_most g j) D

@@ -1,0 +1,12 @@
+-- `crankforest_judge` meets its contract: the claimed number is handed on as its bits. Assumes nothing.
+use mir.Facts.{to_z-of_z}
+use Rattle.crankforest.proofs.judging.crankforest_judge.Goals as goal
+
+pub returns : goal.returns
+returns c =
+    let judged = c in
+    record {
+      judgement = judged.judge-judgement.result;
+      judged = rw (to_z-of_z judged.ranges.claimed) at judged.judge-judgement.ensures;
+      numbers = c.as_numbers-numbers.ensures;
+    }

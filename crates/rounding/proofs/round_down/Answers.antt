@@ -1,0 +1,25 @@
+-- `round_down` meets its contract: what can be rounded goes down, and the rest stays. Assumes nothing.
+use mathlib.Core.Path.{refl, sym, subst}
+use lib.IntN.{ℤ}
+use mir.Syntax.{w64}
+use mir.ValLaws.{to_z-of_z}
+use Rattle.rounding.specs.Promise.{WentDown, went_down, not_down}
+use Rattle.rounding.proofs.round_down.Goals as goal
+
+pub down-requires : goal.down-requires
+down-requires c =
+    let r = c.roundable.ensures.yes c.if-roundable.true in
+    (r.step_positive, r.step_small, r.within)
+
+pub returns-then-roundable : goal.returns-then-roundable
+returns-then-roundable c =
+    let start = c in
+    subst (λ (y : ℤ). WentDown start.args.step start.args.x y) (sym (to_z-of_z w64 c.down.result (record { sfits = c.down.type_inv })))
+    (subst (λ (x : ℤ). WentDown start.args.step x c.down.result) (to_z-of_z w64 start.args.x start.ranges.x)
+    (went_down (c.roundable.ensures.yes c.if-roundable.true) c.down.ensures.0))
+
+pub returns : goal.returns
+returns c =
+    let start = c in
+    subst (λ (x : ℤ). WentDown start.args.step start.args.x x) (sym (to_z-of_z w64 start.args.x start.ranges.x))
+    (subst (λ (x : ℤ). WentDown start.args.step x x) (to_z-of_z w64 start.args.x start.ranges.x) (not_down (c.roundable.ensures.no c.if-roundable.false) refl))

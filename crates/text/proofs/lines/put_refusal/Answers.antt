@@ -1,0 +1,22 @@
+-- `put_refusal` meets its contract: five writings, one after the other. Assumes nothing.
+use mathlib.Core.Path.{◌∙◌}
+use Rattle.numerals.proofs.Appends.{put_length}
+use Rattle.text.proofs.WrittenLines.{refused_put}
+use Rattle.text.proofs.lines.put_refusal.Goals as goal
+
+pub shape_of-out : goal.shape_of-out
+shape_of-out c =
+    let place = c in
+    let comma = place in
+    let number = comma in
+    let word = number in
+    put_length c.put_bytes.ensures ∙ put_length place.put_natural-last.ensures.put ∙ put_length comma.put_byte-comma.ensures ∙ put_length number.put_natural-number.ensures.put ∙ put_length word.put_bytes-word.ensures
+
+pub returns : goal.returns
+returns c =
+    let place = c in
+    let comma = place in
+    let number = comma in
+    let word = number in
+    let pre = word.requires in
+    refused_put _ _ pre.1 pre.2 pre.0 word.put_bytes-word.ensures number.put_natural-number.ensures comma.put_byte-comma.ensures place.put_natural-last.ensures c.put_bytes.ensures
