@@ -1,6 +1,6 @@
 /* Crankforest: the greatest separation of two events of an event graph, in whole ticks.
  *
- * Link with libcrankforest.a (`rt staticlib crankforest` writes it to target/staticlib). It needs no heap and keeps no state, so any thread may call it;
+ * Link with libcrankforest.a (`rt lib`, in crates/crankforest, writes it to out/ there). It needs no heap and keeps no state, so any thread may call it;
  * docs/BENCHMARKS.md has the stack that each entry takes.
  *
  * Every list, length and number handed in gets an answer: a result, or one of the numbered refusals below. A list is a pointer and the number of its

@@ -1,8 +1,8 @@
 #!/usr/bin/env python3
 """Holds docs/PROMISES.md to the code: every public function, anything that another crate or C can call, asks nothing of its caller, promises
 something, and has a row in the table "Public functions" that names its promise, the theorem that two allowed results are equal, and two must-fail edits
-or more. Each name in a row must be found: the promise in specs/ and the theorem in proofs/, of the function's crate or of one below it, the edits in the
-crate's must-fail/. A row for a function that is not there is a fault too. Exceptions stand in the table "Exceptions" below it, with their reason.
+or more. Each name in a row must be found: the promise in the function's contract and in specs/, the theorem in proofs/, of the function's crate or of one
+below it, the edits in the crate's must-fail/. A row for a function that is not there is a fault too. Exceptions stand in the table "Exceptions" below it, with their reason.
 
 Exit status 0: nothing is wrong. 1: the faults are printed. The last line counts the functions.
 """
@@ -12,11 +12,11 @@ import re
 import sys
 
 TOP = pathlib.Path(__file__).resolve().parent.parent
-HEAD = re.compile(r'^\s*pub (?:extern "C" )?fn (\w+)')
+HEAD = re.compile(r'^\s*pub (?:const |unsafe |extern "C" )*fn (\w+)')
 
 
 def public_functions():
-    """Crate, name, and whether the function asks and promises, for each public function."""
+    """Crate, name and contract, as its lines, for each public function."""
     for path in sorted(TOP.glob("crates/*/src/**/*.rt")):
         crate = path.relative_to(TOP).parts[1]
         lines = path.read_text(encoding="utf-8").split("\n")
@@ -25,12 +25,10 @@ def public_functions():
             if found:
                 clauses = []
                 for text in lines[at + 1 :]:
-                    if text.rstrip() == "{" or text.startswith("}"):
+                    if text.strip() == "{" or text.startswith("}"):
                         break
                     clauses.append(text.strip())
-                asks = any(text.startswith("requires") for text in clauses)
-                promises = any(text.startswith("ensures") for text in clauses)
-                yield crate, found.group(1), asks, promises
+                yield crate, found.group(1), clauses
 
 
 def table(title):
@@ -46,8 +44,8 @@ def table(title):
 def with_floors(crate):
     """A crate and those that crates.txt puts below it."""
     for line in (TOP / "crates.txt").read_text(encoding="utf-8").split("\n"):
-        name, colon, below = line.partition(":")
-        if colon and name == crate:
+        head, colon, below = line.partition(":")
+        if colon and head.split()[:1] == [crate]:
             return [crate, *below.split()]
     return [crate]
 
@@ -59,9 +57,13 @@ def stands_in(name, crate, folder):
     return any(word.search(path.read_text(encoding="utf-8")) for path in files)
 
 
-def faults_of_row(crate, name, row):
+def faults_of_row(crate, clauses, row):
     """What is wrong with the row of a function: its promise, its theorem, its edits."""
     promises, theorems, edits = row[1], row[2], row[3]
+    words = set(re.findall(r"[^\s(){}]+", " ".join(clauses)))
+    for each in promises:
+        if each not in words:
+            yield f"promise {each} is not in its contract"
     for kind, names, folder in (("promise", promises, "specs"), ("theorem", theorems, "proofs")):
         if not names:
             yield f"names no {kind}"
@@ -80,19 +82,19 @@ def main():
     excepted = {row[0][0] for row in table("Exceptions") if row[0]}
     faults = []
     names = set()
-    for crate, name, asks, promises in public_functions():
+    for crate, name, clauses in public_functions():
         whole = f"{crate}::{name}"
         names.add(whole)
         if whole in excepted:
             continue
-        if asks:
+        if any(text.startswith("requires") for text in clauses):
             faults.append(f"{whole} asks something of its caller")
-        if not promises:
+        if not any(text.startswith("ensures") for text in clauses):
             faults.append(f"{whole} promises nothing")
         if whole not in rows:
             faults.append(f"{whole} has no row in docs/PROMISES.md")
         else:
-            faults += [f"{whole}: {fault}" for fault in faults_of_row(crate, name, rows[whole])]
+            faults += [f"{whole}: {fault}" for fault in faults_of_row(crate, clauses, rows[whole])]
     faults += [f"{whole} is in docs/PROMISES.md and not in the code" for whole in (set(rows) | excepted) - names]
     for fault in faults:
         print("promises:", fault)

@@ -3,7 +3,7 @@ use std::path::Path;
 
 fn main() {
     let top = Path::new(env!("CARGO_MANIFEST_DIR")).join("../..");
-    for (folder, name) in [("target/staticlib", "crankforest"), ("target/bench", "plain")] {
+    for (folder, name) in [("crates/crankforest/out", "crankforest"), ("target/bench", "plain")] {
         let folder = top.join(folder);
         println!("cargo:rustc-link-search=native={}", folder.display());
         println!("cargo:rustc-link-lib=static={}", name);

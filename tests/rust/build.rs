@@ -1,4 +1,4 @@
-//! Links the static library: ../../target/staticlib/libcrankforest.a, or the archive that the environment's CRANKFOREST_LIB names.
+//! Links the static library: ../../crates/crankforest/out/libcrankforest.a, or the archive that the environment's CRANKFOREST_LIB names.
 
 use std::env;
 use std::path::{Path, PathBuf};
@@ -14,12 +14,12 @@ fn main() {
 }
 
 fn archive() -> PathBuf {
-    let usual = Path::new("../../target/staticlib/libcrankforest.a");
+    let usual = Path::new("../../crates/crankforest/out/libcrankforest.a");
     let named = env::var_os("CRANKFOREST_LIB").map(PathBuf::from);
     let path = named.unwrap_or_else(|| usual.to_path_buf());
     match path.canonicalize() {
         Ok(found) => found,
-        Err(_) => panic!("no archive at {}: `rt staticlib crankforest` writes it", path.display()),
+        Err(_) => panic!("no archive at {}: `rt lib`, in crates/crankforest, writes it", path.display()),
     }
 }
 

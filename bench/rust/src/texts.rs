@@ -52,7 +52,7 @@ mod with_library {
     const PAIRS: [Pairs; 2] = [pairs, plain_text::pairs];
 
     /// Where the pair program is, if it is there.
-    const PROGRAM: &str = "target/bin/pairs";
+    const PROGRAM: &str = "crates/pairs/out/pairs";
 
     /// What the pair function writes.
     fn written(pairs: Pairs, text: &[u8]) -> Vec<u8> {

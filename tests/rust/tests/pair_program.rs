@@ -1,5 +1,5 @@
-//! The pair program as a process: the examples, texts with known answers, and random and damaged texts against plain Rust. It is target/bin/pairs, or
-//! what the environment's CRANKFOREST_PAIRS names.
+//! The pair program as a process: the examples, texts with known answers, and random and damaged texts against plain Rust. It is
+//! crates/pairs/out/pairs, or what the environment's CRANKFOREST_PAIRS names.
 
 use crankforest_tests::random::Random;
 use crankforest_tests::{plain_text, programs, texts};
@@ -15,14 +15,14 @@ fn repository() -> PathBuf {
 fn program() -> PathBuf {
     match env::var_os("CRANKFOREST_PAIRS") {
         Some(path) => PathBuf::from(path),
-        None => repository().join("target/bin/pairs"),
+        None => repository().join("crates/pairs/out/pairs"),
     }
 }
 
 /// What the program writes with this file as its standard input. It ends with status 0 and writes no error, refused or not.
 fn run(input: &Path) -> Vec<u8> {
     let file = File::open(input).expect("the input can be read");
-    let output = programs::command(&program()).stdin(Stdio::from(file)).output().expect("target/bin/pairs runs");
+    let output = programs::command(&program()).stdin(Stdio::from(file)).output().expect("crates/pairs/out/pairs runs");
     assert!(output.status.success(), "{}: {}", input.display(), output.status);
     assert_eq!(output.stderr, b"", "{}", input.display());
     output.stdout
