@@ -9,7 +9,7 @@ use Rattle.analysis.proofs.Promises.{analysed_counts, analysed_short, analysed_i
 use Rattle.analysis.proofs.analyse.Goals as goal
 use Rattle.analysis.proofs.analyse.Goals.{Start, Else-counts-ne0, Else-latest-n}
 
-counts : (c : Else-counts-ne0) → CountsKept ((graph_of c.args.n c.args.sources.now c.args.targets.now c.args.leasts.now c.args.mosts.now))
+counts : (c : Else-counts-ne0) → CountsKept (graph_of c.args.n c.args.sources.now c.args.targets.now c.args.leasts.now c.args.mosts.now)
 counts c = counts_of c.if-counts-ne0.false c.check_counts-counts.ensures
 
 room : (c : Else-latest-n) → length c.args.latest.now < c.args.n → ⊥

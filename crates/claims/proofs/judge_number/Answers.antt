@@ -18,7 +18,7 @@ formed : (s : Start) → to_z w64 (of_z w64 s.args.end) -ℤ to_z w64 (of_z w64 
 formed s = read_difference w64 1023000000 1023000000 _ _ (lit< tt) s.requires.1 s.requires.0
 
 equals : (c : Else-gap-claimed) → c.args.end -ℤ c.args.start ≡ c.args.claimed
-equals c = sym ((difference_back w64 1023000000 1023000000 _ _ (lit< tt) c.requires.1 c.requires.0)) ∙ ap (to_z w64) c.if-gap-claimed.false ∙ to_z-of_z c.ranges.claimed
+equals c = sym (difference_back w64 1023000000 1023000000 _ _ (lit< tt) c.requires.1 c.requires.0) ∙ ap (to_z w64) c.if-gap-claimed.false ∙ to_z-of_z c.ranges.claimed
 
 pub overflow_sub-gap : goal.overflow_sub-gap
 overflow_sub-gap c = difference_fits w64 1023000000 1023000000 _ _ (lit< tt) c.requires.1 c.requires.0
@@ -28,12 +28,10 @@ returns-then-gap-claimed c = λ e. c.if-gap-claimed.true (ap (of_z w64) (formed 
 
 pub returns-then-gap-maximum : goal.returns-then-gap-maximum
 returns-then-gap-maximum c =
-    let s = c in
     let e = equals (goal.at.returns-then-gap-maximum c).Else-gap-claimed in
-    (e, omega (linear, e, held (goal.at.returns-then-gap-maximum c).Start, to_z-of_z s.ranges.maximum, c.if-gap-maximum.true))
+    (e, omega (linear, e, held (goal.at.returns-then-gap-maximum c).Start, to_z-of_z c.ranges.maximum, c.if-gap-maximum.true))
 
 pub returns : goal.returns
 returns c =
-    let s = c in
     let e = equals (goal.at.returns c).Else-gap-claimed in
-    (e, omega (linear, e, held (goal.at.returns c).Start, to_z-of_z s.ranges.maximum, c.if-gap-maximum.false))
+    (e, omega (linear, e, held (goal.at.returns c).Start, to_z-of_z c.ranges.maximum, c.if-gap-maximum.false))

@@ -41,11 +41,10 @@ write_gaps-requires c =
 
 pub write_differences-requires : goal.write_differences-requires
 write_differences-requires c =
-    let start = c in
     let call = c.both_ends-answer in
     let zero = c.if-answer-ne0.false in
     let counts = (call.ensures.answer.found zero).graph.sized.counts in
-    let written = c.write_gaps in record { lengths = (counts.targets_match, counts.few_rules, second_long (roomy (goal.at.write_differences-requires c).Else-delays-sources)); timed = rule_timed call.ensures zero written.ensures (subst (λ (m : ℕ). start.args.n ≤ m) (sym written.auto.gaps) (first_long (roomy (goal.at.write_differences-requires c).Else-delays-sources))) }
+    let written = c.write_gaps in record { lengths = (counts.targets_match, counts.few_rules, second_long (roomy (goal.at.write_differences-requires c).Else-delays-sources)); timed = rule_timed call.ensures zero written.ensures (subst (λ (m : ℕ). c.args.n ≤ m) (sym written.auto.gaps) (first_long (roomy (goal.at.write_differences-requires c).Else-delays-sources))) }
 
 pub returns : goal.returns
 returns c =

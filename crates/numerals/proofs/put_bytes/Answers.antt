@@ -20,9 +20,8 @@ loop-i-smaller c = omega (arith, c.loop-i-test.true)
 
 pub loop-i-preserved : goal.loop-i-preserved
 loop-i-preserved c =
-    let b = c in
-    let room = room_left _ b.loop-i-test.true (omega (arith, c.if-at-out.false, c.if-out-at.false)) b.loop-i.invariant.1 in
-    (omega (arith, b.loop-i-test.true), appended_next _ b.loop-i-test.true b.loop-i.invariant.1 (c.put_byte-next.ensures.fits (omega (arith, room))))
+    let room = room_left _ c.loop-i-test.true (omega (arith, c.if-at-out.false, c.if-out-at.false)) c.loop-i.invariant.1 in
+    (omega (arith, c.loop-i-test.true), appended_next _ c.loop-i-test.true c.loop-i.invariant.1 (c.put_byte-next.ensures.fits (omega (arith, room))))
 
 pub shape_of-out : goal.shape_of-out
 shape_of-out c = appended_length c.loop-i.invariant.1

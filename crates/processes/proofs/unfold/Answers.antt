@@ -13,22 +13,22 @@ use Rattle.processes.proofs.unfold.Goals.{Start, After-check_process-answer, Els
 -- the answer, whether or not it is a refusal
 answered : (c : After-check_process-answer) →
     UnfoldingAnswered
-    ((process_of c.args.p c.args.sources.now c.args.targets.now c.args.leasts.now c.args.mosts.now c.args.marks.now c.args.start_leasts.now c.args.start_mosts.now))
+    (process_of c.args.p c.args.sources.now c.args.targets.now c.args.leasts.now c.args.mosts.now c.args.marks.now c.args.start_leasts.now c.args.start_mosts.now)
     c.args.copies
-    (ShortRuleLists ((process_of c.args.p c.args.sources.now c.args.targets.now c.args.leasts.now c.args.mosts.now c.args.marks.now c.args.start_leasts.now c.args.start_mosts.now)) c.args.copies c.args.out_sources.now c.args.out_targets.now c.args.out_leasts.now c.args.out_mosts.now)
+    (ShortRuleLists (process_of c.args.p c.args.sources.now c.args.targets.now c.args.leasts.now c.args.mosts.now c.args.marks.now c.args.start_leasts.now c.args.start_mosts.now) c.args.copies c.args.out_sources.now c.args.out_targets.now c.args.out_leasts.now c.args.out_mosts.now)
     c.check_process-answer.result
 answered c =
     let f = c.fewest-places.ensures in
     answered_short {g = (process_of c.args.p c.args.sources.now c.args.targets.now c.args.leasts.now c.args.mosts.now c.args.marks.now c.args.start_leasts.now c.args.start_mosts.now)} (some_short f.4) (shortest f.0 f.1 f.2 f.3) c.check_process-answer.ensures.answered
 
 -- past the refusals
-kept : (c : Else-answer-ne0) → ProcessKept ((process_of c.args.p c.args.sources.now c.args.targets.now c.args.leasts.now c.args.mosts.now c.args.marks.now c.args.start_leasts.now c.args.start_mosts.now)) c.args.copies c.fewest-places.result
+kept : (c : Else-answer-ne0) → ProcessKept (process_of c.args.p c.args.sources.now c.args.targets.now c.args.leasts.now c.args.mosts.now c.args.marks.now c.args.start_leasts.now c.args.start_mosts.now) c.args.copies c.fewest-places.result
 kept c = c.check_process-answer.ensures.kept c.if-answer-ne0.false
 
-room : (c : Else-answer-ne0) → (templates ((process_of c.args.p c.args.sources.now c.args.targets.now c.args.leasts.now c.args.mosts.now c.args.marks.now c.args.start_leasts.now c.args.start_mosts.now)) * c.args.copies ≤ length c.args.out_sources.now)
-    × (templates ((process_of c.args.p c.args.sources.now c.args.targets.now c.args.leasts.now c.args.mosts.now c.args.marks.now c.args.start_leasts.now c.args.start_mosts.now)) * c.args.copies ≤ length c.args.out_targets.now)
-    × (templates ((process_of c.args.p c.args.sources.now c.args.targets.now c.args.leasts.now c.args.mosts.now c.args.marks.now c.args.start_leasts.now c.args.start_mosts.now)) * c.args.copies ≤ length c.args.out_leasts.now)
-    × (templates ((process_of c.args.p c.args.sources.now c.args.targets.now c.args.leasts.now c.args.mosts.now c.args.marks.now c.args.start_leasts.now c.args.start_mosts.now)) * c.args.copies ≤ length c.args.out_mosts.now)
+room : (c : Else-answer-ne0) → (templates (process_of c.args.p c.args.sources.now c.args.targets.now c.args.leasts.now c.args.mosts.now c.args.marks.now c.args.start_leasts.now c.args.start_mosts.now) * c.args.copies ≤ length c.args.out_sources.now)
+    × (templates (process_of c.args.p c.args.sources.now c.args.targets.now c.args.leasts.now c.args.mosts.now c.args.marks.now c.args.start_leasts.now c.args.start_mosts.now) * c.args.copies ≤ length c.args.out_targets.now)
+    × (templates (process_of c.args.p c.args.sources.now c.args.targets.now c.args.leasts.now c.args.mosts.now c.args.marks.now c.args.start_leasts.now c.args.start_mosts.now) * c.args.copies ≤ length c.args.out_leasts.now)
+    × (templates (process_of c.args.p c.args.sources.now c.args.targets.now c.args.leasts.now c.args.mosts.now c.args.marks.now c.args.start_leasts.now c.args.start_mosts.now) * c.args.copies ≤ length c.args.out_mosts.now)
 room c =
     let f = c.fewest-places.ensures in
     let k = (kept c).room in
@@ -42,5 +42,4 @@ write_rules-requires c = record { process_kept = kept_enough (kept (goal.at.writ
 
 pub returns : goal.returns
 returns c =
-    let b = c in
-    record { unfolding_answered = answered (goal.at.returns c).After-check_process-answer; unfolding_written = lists_written {g = (process_of b.args.p b.args.sources.now b.args.targets.now b.args.leasts.now b.args.mosts.now b.args.marks.now b.args.start_leasts.now b.args.start_mosts.now)} (room (goal.at.returns c).Else-answer-ne0) b.if-answer-ne0.false c.write_rules.ensures }
+    record { unfolding_answered = answered (goal.at.returns c).After-check_process-answer; unfolding_written = lists_written {g = (process_of c.args.p c.args.sources.now c.args.targets.now c.args.leasts.now c.args.mosts.now c.args.marks.now c.args.start_leasts.now c.args.start_mosts.now)} (room (goal.at.returns c).Else-answer-ne0) c.if-answer-ne0.false c.write_rules.ensures }

@@ -18,21 +18,19 @@ bounds-mosts-i c = omega (arith, ltb-true)
 
 pub returns-then-delays_beyond : goal.returns-then-delays_beyond
 returns-then-delays_beyond c =
-    let b = c in
     let d = c.delays_beyond-arg-1.given in
     let D = c.delays_beyond-arg-in-loop-i-1.given in
-    lowest_here _ _ _ b.loop-i.i b.loop-i.invariant (read_pair w64 (BeyondDelays _) _ _ d D (c.delays_beyond.ensures.outside c.if-delays_beyond.true))
+    lowest_here _ _ _ c.loop-i.i c.loop-i.invariant (read_pair w64 (BeyondDelays _) _ _ d D (c.delays_beyond.ensures.outside c.if-delays_beyond.true))
 
 pub loop-i-preserved : goal.loop-i-preserved
 loop-i-preserved c =
-    let b = c in
     let d = c.delays_beyond-arg-1.given in
     let D = c.delays_beyond-arg-in-loop-i-1.given in
     passed_more
     _
     _
-    b.loop-i.i
-    b.loop-i.invariant
+    c.loop-i.i
+    c.loop-i.invariant
     (omega (arith, ltb-true))
     (read_pair w64 (BoundedDelays _) _ _ d D (c.delays_beyond.ensures.inside c.if-delays_beyond.false))
 

@@ -11,19 +11,19 @@ use Rattle.refusals.proofs.Counts.{counts_of, counts_given}
 use Rattle.refusals.proofs.check_input.Goals as goal
 use Rattle.refusals.proofs.check_input.Goals.{Start, Else-counts-ne0, Else-unknown-sources, Else-outside-leasts}
 
-counts : (c : Else-counts-ne0) → CountsKept ((graph_of c.args.n c.args.sources.now c.args.targets.now c.args.leasts.now c.args.mosts.now))
+counts : (c : Else-counts-ne0) → CountsKept (graph_of c.args.n c.args.sources.now c.args.targets.now c.args.leasts.now c.args.mosts.now)
 counts c = counts_of c.if-counts-ne0.false c.check_counts-counts.ensures
 
-ends : (c : Else-unknown-sources) (i : ℕ) → i < rules ((graph_of c.args.n c.args.sources.now c.args.targets.now c.args.leasts.now c.args.mosts.now)) → EndsKept ((graph_of c.args.n c.args.sources.now c.args.targets.now c.args.leasts.now c.args.mosts.now)) i
-ends c = all_ends_kept ((counts_of c.if-counts-ne0.false c.check_counts-counts.ensures)).targets_match c.unknown_event-unknown.ensures c.if-unknown-sources.false
+ends : (c : Else-unknown-sources) (i : ℕ) → i < rules (graph_of c.args.n c.args.sources.now c.args.targets.now c.args.leasts.now c.args.mosts.now) → EndsKept (graph_of c.args.n c.args.sources.now c.args.targets.now c.args.leasts.now c.args.mosts.now) i
+ends c = all_ends_kept (counts_of c.if-counts-ne0.false c.check_counts-counts.ensures).targets_match c.unknown_event-unknown.ensures c.if-unknown-sources.false
 
-sized : (c : Else-outside-leasts) → Sized (delay_limit c.args.limit) ((graph_of c.args.n c.args.sources.now c.args.targets.now c.args.leasts.now c.args.mosts.now))
+sized : (c : Else-outside-leasts) → Sized (delay_limit c.args.limit) (graph_of c.args.n c.args.sources.now c.args.targets.now c.args.leasts.now c.args.mosts.now)
 sized c =
     let sizes = (counts_of c.if-counts-ne0.false c.check_counts-counts.ensures) in
-    subst (λ (b : ℕ). Sized b ((graph_of c.args.n c.args.sources.now c.args.targets.now c.args.leasts.now c.args.mosts.now))) c.delay_limit-bound.ensures
+    subst (λ (b : ℕ). Sized b (graph_of c.args.n c.args.sources.now c.args.targets.now c.args.leasts.now c.args.mosts.now)) c.delay_limit-bound.ensures
     (record {
       counts = sizes;
-      ends = (all_ends_kept ((counts_of c.if-counts-ne0.false c.check_counts-counts.ensures)).targets_match c.unknown_event-unknown.ensures c.if-unknown-sources.false);
+      ends = (all_ends_kept (counts_of c.if-counts-ne0.false c.check_counts-counts.ensures).targets_match c.unknown_event-unknown.ensures c.if-unknown-sources.false);
       delays = all_delays_kept (sizes.mosts_match ∙ sym sizes.leasts_match) sizes.leasts_match c.beyond_delay-outside.ensures c.if-outside-leasts.false;
     })
 
@@ -37,9 +37,8 @@ returns-then-unknown-sources c =
 
 pub returns-then-outside-leasts : goal.returns-then-outside-leasts
 returns-then-outside-leasts c =
-    let start = c in
     let sizes = counts (goal.at.returns-then-outside-leasts c).Else-counts-ne0 in
-    subst (λ (b : ℕ). FirstOf (question_checks_to b ((graph_of start.args.n start.args.sources.now start.args.targets.now start.args.leasts.now start.args.mosts.now)) start.args.s start.args.t ⊥) 3 c.beyond_delay-outside.result) c.delay_limit-bound.ensures
+    subst (λ (b : ℕ). FirstOf (question_checks_to b (graph_of c.args.n c.args.sources.now c.args.targets.now c.args.leasts.now c.args.mosts.now) c.args.s c.args.t ⊥) 3 c.beyond_delay-outside.result) c.delay_limit-bound.ensures
     (input_3 sizes (ends (goal.at.returns-then-outside-leasts c).Else-unknown-sources)
     (lowest_beyond (sizes.mosts_match ∙ sym sizes.leasts_match) sizes.leasts_match c.beyond_delay-outside.ensures c.if-outside-leasts.true))
 

@@ -67,36 +67,31 @@ in-range b d D dl dh Dl Dh =
 
 pub returns-then-least-low : goal.returns-then-least-low
 returns-then-least-low c =
-    let start = c in
-    refused (least_low (less _ _ (below start.args.bound start.requires _ _ start.ranges.least c.if-least-low.true)))
+    refused (least_low (less _ _ (below c.args.bound c.requires _ _ c.ranges.least c.if-least-low.true)))
 
 pub returns-then-least-high : goal.returns-then-least-high
 returns-then-least-high c =
-    let start = c in
-    refused (least_high (less _ _ (above start.args.bound start.requires _ _ start.ranges.least c.if-least-high.true)))
+    refused (least_high (less _ _ (above c.args.bound c.requires _ _ c.ranges.least c.if-least-high.true)))
 
 pub returns-then-most-low : goal.returns-then-most-low
 returns-then-most-low c =
-    let start = c in
-    refused (most_low (less _ _ (below start.args.bound start.requires _ _ start.ranges.most c.if-most-low.true)))
+    refused (most_low (less _ _ (below c.args.bound c.requires _ _ c.ranges.most c.if-most-low.true)))
 
 pub returns-then-most-high : goal.returns-then-most-high
 returns-then-most-high c =
-    let start = c in
-    refused (most_high (less _ _ (above start.args.bound start.requires _ _ start.ranges.most c.if-most-high.true)))
+    refused (most_high (less _ _ (above c.args.bound c.requires _ _ c.ranges.most c.if-most-high.true)))
 
 pub returns : goal.returns
 returns c =
-    let start = c in
-    let l : SFits w64 start.args.least = start.ranges.least in
-    let m : SFits w64 start.args.most = start.ranges.most in
+    let l : SFits w64 c.args.least = c.ranges.least in
+    let m : SFits w64 c.args.most = c.ranges.most in
     simp
     (to_z-of_z, l, m)
     (in-range
-    start.args.bound
+    c.args.bound
     _
     _
-    (below start.args.bound start.requires _ _ l c.if-least-low.false)
-    (above start.args.bound start.requires _ _ l c.if-least-high.false)
-    (below start.args.bound start.requires _ _ m c.if-most-low.false)
-    (above start.args.bound start.requires _ _ m c.if-most-high.false))
+    (below c.args.bound c.requires _ _ l c.if-least-low.false)
+    (above c.args.bound c.requires _ _ l c.if-least-high.false)
+    (below c.args.bound c.requires _ _ m c.if-most-low.false)
+    (above c.args.bound c.requires _ _ m c.if-most-high.false))

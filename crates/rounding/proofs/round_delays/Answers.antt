@@ -17,31 +17,26 @@ inside c = all_inside c.args.leasts.now c.args.mosts.now c.if-mosts-leasts.false
 
 pub returns-then-mosts-leasts : goal.returns-then-mosts-leasts
 returns-then-mosts-leasts c =
-    let start = c in
-    delays_refused (omega arith) (rounding_22 start.args.low.now start.args.high.now c.if-mosts-leasts.true)
+    delays_refused (omega arith) (rounding_22 c.args.low.now c.args.high.now c.if-mosts-leasts.true)
 
 pub returns-then-too_short : goal.returns-then-too_short
 returns-then-too_short c =
-    let start = c in
-    delays_refused (omega arith) (rounding_23 start.args.low.now start.args.high.now c.if-mosts-leasts.false (c.too_short.ensures.yes c.if-too_short.true))
+    delays_refused (omega arith) (rounding_23 c.args.low.now c.args.high.now c.if-mosts-leasts.false (c.too_short.ensures.yes c.if-too_short.true))
 
 pub returns-then-outside-leasts : goal.returns-then-outside-leasts
 returns-then-outside-leasts c =
-    let start = c in
     let r = room (goal.at.returns-then-outside-leasts c).Else-too_short in
     delays_refused (omega arith)
-    (rounding_3 start.args.low.now start.args.high.now r (lowest_entry start.args.leasts.now start.args.mosts.now r.as_many c.outside_delay-outside.ensures c.if-outside-leasts.true))
+    (rounding_3 c.args.low.now c.args.high.now r (lowest_entry c.args.leasts.now c.args.mosts.now r.as_many c.outside_delay-outside.ensures c.if-outside-leasts.true))
 
 pub returns-then-step_outside : goal.returns-then-step_outside
 returns-then-step_outside c =
-    let start = c in
     delays_refused (omega arith)
-    (rounding_9 start.args.low.now start.args.high.now (room (goal.at.returns-then-step_outside c).Else-too_short) (inside (goal.at.returns-then-step_outside c).Else-outside-leasts) (c.step_outside.ensures.yes c.if-step_outside.true))
+    (rounding_9 c.args.low.now c.args.high.now (room (goal.at.returns-then-step_outside c).Else-too_short) (inside (goal.at.returns-then-step_outside c).Else-outside-leasts) (c.step_outside.ensures.yes c.if-step_outside.true))
 
 pub round_lists-requires : goal.round_lists-requires
 round_lists-requires c =
-    let passed = c in
-    let step = passed.step_outside.ensures.no passed.if-step_outside.false in
+    let step = c.step_outside.ensures.no c.if-step_outside.false in
     let r = room (goal.at.round_lists-requires c).Else-too_short in record {
       in_bounds = (step.0, step.1, r.as_many, r.low_long, r.high_long);
       inside = λ i l.
@@ -51,8 +46,7 @@ round_lists-requires c =
 
 pub returns : goal.returns
 returns c =
-    let passed = c in
-    let step = passed.step_outside.ensures.no passed.if-step_outside.false in
+    let step = c.step_outside.ensures.no c.if-step_outside.false in
     let written = c.round_lists in
     delays_rounded (room (goal.at.returns c).Else-too_short) (inside (goal.at.returns c).Else-outside-leasts) step.0 step.1
     written.ensures.lows written.auto.low written.ensures.highs written.auto.high

@@ -13,13 +13,11 @@ down-requires c =
 
 pub returns-then-roundable : goal.returns-then-roundable
 returns-then-roundable c =
-    let start = c in
-    subst (λ (y : ℤ). WentDown start.args.step start.args.x y) (sym (to_z-of_z w64 c.down.result (record { sfits = c.down.type_inv })))
-    (subst (λ (x : ℤ). WentDown start.args.step x c.down.result) (to_z-of_z w64 start.args.x start.ranges.x)
+    subst (λ (y : ℤ). WentDown c.args.step c.args.x y) (sym (to_z-of_z w64 c.down.result (record { sfits = c.down.type_inv })))
+    (subst (λ (x : ℤ). WentDown c.args.step x c.down.result) (to_z-of_z w64 c.args.x c.ranges.x)
     (went_down (c.roundable.ensures.yes c.if-roundable.true) c.down.ensures.0))
 
 pub returns : goal.returns
 returns c =
-    let start = c in
-    subst (λ (x : ℤ). WentDown start.args.step start.args.x x) (sym (to_z-of_z w64 start.args.x start.ranges.x))
-    (subst (λ (x : ℤ). WentDown start.args.step x x) (to_z-of_z w64 start.args.x start.ranges.x) (not_down (c.roundable.ensures.no c.if-roundable.false) refl))
+    subst (λ (x : ℤ). WentDown c.args.step c.args.x x) (sym (to_z-of_z w64 c.args.x c.ranges.x))
+    (subst (λ (x : ℤ). WentDown c.args.step x x) (to_z-of_z w64 c.args.x c.ranges.x) (not_down (c.roundable.ensures.no c.if-roundable.false) refl))

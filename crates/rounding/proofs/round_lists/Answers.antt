@@ -10,20 +10,16 @@ loop-i-init c = (filling_none (pos 0) _ _ _, filling_none (pos 0) _ _ _)
 
 pub down-requires : goal.down-requires
 down-requires c =
-    let start = c in
-    (start.requires.in_bounds.0, start.requires.in_bounds.1, delay_held (start.requires.inside c.loop-i.i c.loop-i-test.true).0)
+    (c.requires.in_bounds.0, c.requires.in_bounds.1, delay_held (c.requires.inside c.loop-i.i c.loop-i-test.true).0)
 
 pub up-requires : goal.up-requires
 up-requires c =
-    let start = c in
-    (start.requires.in_bounds.0, start.requires.in_bounds.1, delay_held (start.requires.inside c.loop-i.i c.loop-i-test.true).1)
+    (c.requires.in_bounds.0, c.requires.in_bounds.1, delay_held (c.requires.inside c.loop-i.i c.loop-i-test.true).1)
 
 pub loop-i-preserved : goal.loop-i-preserved
 loop-i-preserved c =
-    let b = c in
-    let start = b in
-    let i = b.loop-i.i in
-    let near = start.requires.inside i b.loop-i-test.true in
+    let i = c.loop-i.i in
+    let near = c.requires.inside i c.loop-i-test.true in
     let down = c.down.ensures in
     let up = c.up.ensures in (
       filling_more
@@ -35,9 +31,9 @@ loop-i-preserved c =
           _
           _
           (omega arith)
-          b.loop-i.invariant.0
-          b.loop-i-test.true
-          (written_held (Down start.args.step) _ _ near.0 down.0 down.1),
+          c.loop-i.invariant.0
+          c.loop-i-test.true
+          (written_held (Down c.args.step) _ _ near.0 down.0 down.1),
       filling_more
           (pos 0)
           _
@@ -47,9 +43,9 @@ loop-i-preserved c =
           _
           _
           (omega arith)
-          b.loop-i.invariant.1
-          b.loop-i-test.true
-          (written_held (Up start.args.step) _ _ near.1 up.0 up.1),
+          c.loop-i.invariant.1
+          c.loop-i-test.true
+          (written_held (Up c.args.step) _ _ near.1 up.0 up.1),
     )
 
 pub shape_of-low : goal.shape_of-low

@@ -13,13 +13,11 @@ up-requires c =
 
 pub returns-then-roundable : goal.returns-then-roundable
 returns-then-roundable c =
-    let start = c in
-    subst (λ (y : ℤ). WentUp start.args.step start.args.x y) (sym (to_z-of_z w64 c.up.result (record { sfits = c.up.type_inv })))
-    (subst (λ (x : ℤ). WentUp start.args.step x c.up.result) (to_z-of_z w64 start.args.x start.ranges.x)
+    subst (λ (y : ℤ). WentUp c.args.step c.args.x y) (sym (to_z-of_z w64 c.up.result (record { sfits = c.up.type_inv })))
+    (subst (λ (x : ℤ). WentUp c.args.step x c.up.result) (to_z-of_z w64 c.args.x c.ranges.x)
     (went_up (c.roundable.ensures.yes c.if-roundable.true) c.up.ensures.0))
 
 pub returns : goal.returns
 returns c =
-    let start = c in
-    subst (λ (x : ℤ). WentUp start.args.step start.args.x x) (sym (to_z-of_z w64 start.args.x start.ranges.x))
-    (subst (λ (x : ℤ). WentUp start.args.step x x) (to_z-of_z w64 start.args.x start.ranges.x) (not_up (c.roundable.ensures.no c.if-roundable.false) refl))
+    subst (λ (x : ℤ). WentUp c.args.step c.args.x x) (sym (to_z-of_z w64 c.args.x c.ranges.x))
+    (subst (λ (x : ℤ). WentUp c.args.step x x) (to_z-of_z w64 c.args.x c.ranges.x) (not_up (c.roundable.ensures.no c.if-roundable.false) refl))

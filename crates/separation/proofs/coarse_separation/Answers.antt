@@ -7,7 +7,7 @@ use Rattle.separation.proofs.Coarsely.{step_verdict, step_in, low_room, high_roo
 use Rattle.separation.proofs.coarse_separation.Goals as goal
 use Rattle.separation.proofs.coarse_separation.Goals.{Start, Else-input-ne0}
 
-kept : (c : Else-input-ne0) → QuestionKept 1000000 ((graph_of c.args.n c.args.sources.now c.args.targets.now c.args.leasts.now c.args.mosts.now)) c.args.s c.args.t
+kept : (c : Else-input-ne0) → QuestionKept 1000000 (graph_of c.args.n c.args.sources.now c.args.targets.now c.args.leasts.now c.args.mosts.now) c.args.s c.args.t
 kept c = (question_kept Accepted c.if-input-ne0.false c.check_input-input.ensures).0
 
 pub returns-then-input-ne0 : goal.returns-then-input-ne0

@@ -15,7 +15,7 @@ use Rattle.separation.proofs.Exact.{answered_counts, answered_too_short, answere
 use Rattle.separation.proofs.schedule.Goals as goal
 use Rattle.separation.proofs.schedule.Goals.{Start, Else-counts-ne0, Else-too_short}
 
-counts : (c : Else-counts-ne0) → CountsKept ((graph_of c.args.n c.args.sources.now c.args.targets.now c.args.leasts.now c.args.mosts.now))
+counts : (c : Else-counts-ne0) → CountsKept (graph_of c.args.n c.args.sources.now c.args.targets.now c.args.leasts.now c.args.mosts.now)
 counts c = counts_of c.if-counts-ne0.false c.check_counts-counts.ensures
 
 roomy : (c : Else-too_short) → (length c.args.times.now < c.args.n) ⊎ (length c.args.delays.now < length c.args.sources.now) → ⊥
@@ -47,8 +47,6 @@ write_times-requires c =
 
 pub write_delays-requires : goal.write_delays-requires
 write_delays-requires c =
-    let start = c in
-    let passed = c in
     let call = c.analysed-answer in
     let found = call.ensures.found c.if-answer-ne0.false in
     let sized = found.graph.sized in
@@ -56,13 +54,12 @@ write_delays-requires c =
     let written = c.write_times in record {
       lengths = (counts.targets_match, counts.mosts_match, counts.few_rules, delays-long (goal.at.write_delays-requires c).Else-too_short);
       timed = λ i h.
-          rule_timed call.new.latest {ss = start.args.sources.now} {ts = start.args.targets.now} {ds = start.args.leasts.now}
-          (omega arith) (subst (λ (m : ℕ). start.args.n ≤ m) (sym written.auto.times) (times_long (goal.at.write_delays-requires c).Else-too_short)) found.within written.ensures (sized.ends i h) (sized.delays i h);
+          rule_timed call.new.latest {ss = c.args.sources.now} {ts = c.args.targets.now} {ds = c.args.leasts.now}
+          (omega arith) (subst (λ (m : ℕ). c.args.n ≤ m) (sym written.auto.times) (times_long (goal.at.write_delays-requires c).Else-too_short)) found.within written.ensures (sized.ends i h) (sized.delays i h);
     }
 
 pub returns : goal.returns
 returns c =
-    let passed = c in
     let call = c.analysed-answer in
     let zero = c.if-answer-ne0.false in record {
       answered = answered_short (λ none. absurd none) (roomy (goal.at.returns c).Else-too_short) (answered_analysed call.ensures);

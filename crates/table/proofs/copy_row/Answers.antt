@@ -18,11 +18,10 @@ overflow_sub-table c =
 
 pub loop-v-preserved : goal.loop-v-preserved
 loop-v-preserved c =
-    let start = c in
-    let near = start.requires.within in (
+    let near = c.requires.within in (
       omega arith,
       copied_more (omega arith) c.loop-v.invariant.1
-          (difference_back w64 1023000000 1023000000 _ _ (lit< tt) (near _ c.loop-v-test.true) (near _ start.requires.in_bounds.0)),
+          (difference_back w64 1023000000 1023000000 _ _ (lit< tt) (near _ c.loop-v-test.true) (near _ c.requires.in_bounds.0)),
     )
 
 pub shape_of-table : goal.shape_of-table

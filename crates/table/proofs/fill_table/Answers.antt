@@ -9,7 +9,7 @@ use Rattle.table.proofs.fill_table.Goals as goal
 use Rattle.table.proofs.fill_table.Goals.{Start, Else-table-n}
 
 -- past the tests
-small : (c : Else-table-n) → TableSmall ((graph_of c.args.n c.args.sources.now c.args.targets.now c.args.leasts.now c.args.mosts.now)) c.args.table.now
+small : (c : Else-table-n) → TableSmall (graph_of c.args.n c.args.sources.now c.args.targets.now c.args.leasts.now c.args.mosts.now) c.args.table.now
 small c = record { none = counts_none c.if-counts-ne0.false c.check_counts-counts.ensures; room = c.if-table-n.false }
 
 few : (c : Else-table-n) → (0 < c.args.n) × (c.args.n ≤ 64) × (length c.args.sources.now ≤ 1024)
@@ -29,7 +29,6 @@ loop-from-init c = (omega arith, rows_none)
 
 pub fill_row-answer-requires : goal.fill_row-answer-requires
 fill_row-answer-requires c =
-    let passed = c in
     (c.loop-from-test.true, (few (goal.at.fill_row-answer-requires c).Else-table-n).1, (few (goal.at.fill_row-answer-requires c).Else-table-n).2, omega (arith, (small (goal.at.fill_row-answer-requires c).Else-table-n).room, c.loop-from.invariant.1.others.same_length))
 
 pub shape_of-table-then-answer-ne0 : goal.shape_of-table-then-answer-ne0

@@ -22,22 +22,22 @@ room c l = omega (arith, c.requires.counts_kept)
 small : (c : After-delay_bound-bound) → c.delay_bound-bound.result ≤ 1001000
 small c = omega (arith, c.delay_bound-bound.ensures)
 
-taken : (c : Else-not-take_rules) → RulesTaken c.delay_bound-bound.result ((graph_of c.args.n c.args.sources.now c.args.targets.now c.args.leasts.now c.args.mosts.now)) c.take_rules.new.heads c.take_rules.new.nexts c.take_rules.new.waiting c.take_rules.result
+taken : (c : Else-not-take_rules) → RulesTaken c.delay_bound-bound.result (graph_of c.args.n c.args.sources.now c.args.targets.now c.args.leasts.now c.args.mosts.now) c.take_rules.new.heads c.take_rules.new.nexts c.take_rules.new.waiting c.take_rules.result
 taken c = c.take_rules.ensures
 
 is_true : (c : Else-not-take_rules) → c.take_rules.result ≡ true
 is_true c = c.if-not-take_rules.false
 
-sized : (c : Else-not-take_rules) → Sized c.delay_bound-bound.result ((graph_of c.args.n c.args.sources.now c.args.targets.now c.args.leasts.now c.args.mosts.now))
+sized : (c : Else-not-take_rules) → Sized c.delay_bound-bound.result (graph_of c.args.n c.args.sources.now c.args.targets.now c.args.leasts.now c.args.mosts.now)
 sized c = sized_right c.requires.counts_kept.0 ((taken c).right (is_true c))
 
-passes : (c : Else-not-take_rules) → Sized 1001000 ((graph_of c.args.n c.args.sources.now c.args.targets.now c.args.leasts.now c.args.mosts.now))
-passes c = sized_up ((omega (arith, c.delay_bound-bound.ensures))) (sized c)
+passes : (c : Else-not-take_rules) → Sized 1001000 (graph_of c.args.n c.args.sources.now c.args.targets.now c.args.leasts.now c.args.mosts.now)
+passes c = sized_up (omega (arith, c.delay_bound-bound.ensures)) (sized c)
 
-question : (c : Else-not-take_rules) → QuestionKept (delay_limit c.args.limit) ((graph_of c.args.n c.args.sources.now c.args.targets.now c.args.leasts.now c.args.mosts.now)) c.args.s c.args.t
+question : (c : Else-not-take_rules) → QuestionKept (delay_limit c.args.limit) (graph_of c.args.n c.args.sources.now c.args.targets.now c.args.leasts.now c.args.mosts.now) c.args.s c.args.t
 question c =
     record {
-      sized = subst (λ (b : ℕ). Sized b ((graph_of c.args.n c.args.sources.now c.args.targets.now c.args.leasts.now c.args.mosts.now))) c.delay_bound-bound.ensures (sized c);
+      sized = subst (λ (b : ℕ). Sized b (graph_of c.args.n c.args.sources.now c.args.targets.now c.args.leasts.now c.args.mosts.now)) c.delay_bound-bound.ensures (sized c);
       source_known = c.requires.counts_kept.1;
       target_known = c.requires.counts_kept.2;
     }
@@ -62,7 +62,7 @@ arranged : (c : Else-lowest-n) → Arranged c.args.n c.args.sources.now c.args.t
 arranged c =
     let found = c.arrange-lowest.ensures.ordered c.if-lowest-n.false in
     record {
-      kept = rules_kept ((sized_right c.requires.counts_kept.0 (c.take_rules.ensures.right c.if-not-take_rules.false)));
+      kept = rules_kept (sized_right c.requires.counts_kept.0 (c.take_rules.ensures.right c.if-not-take_rules.false));
       chains = c.take_rules.ensures.chains c.if-not-take_rules.false;
       order_room = omega (arith, c.arrange-lowest.auto.order, c.requires.room.order_room);
       rank = found.0;
@@ -75,7 +75,7 @@ take_rules-requires c = record { counts_kept = (c.requires.counts_kept.0, small 
 pub returns-then-not-take_rules : goal.returns-then-not-take_rules
 returns-then-not-take_rules c =
     analysed_input_refused (room (goal.at.returns-then-not-take_rules c).Start)
-    (λ k. c.take_rules.ensures.wrong c.if-not-take_rules.true (right_sized (subst (λ (b : ℕ). Sized b ((graph_of c.args.n c.args.sources.now c.args.targets.now c.args.leasts.now c.args.mosts.now))) (sym c.delay_bound-bound.ensures) k.sized)))
+    (λ k. c.take_rules.ensures.wrong c.if-not-take_rules.true (right_sized (subst (λ (b : ℕ). Sized b (graph_of c.args.n c.args.sources.now c.args.targets.now c.args.leasts.now c.args.mosts.now)) (sym c.delay_bound-bound.ensures) k.sized)))
     c.input_refused.ensures
 
 pub arrange-lowest-requires : goal.arrange-lowest-requires
@@ -88,8 +88,7 @@ returns-then-lowest-n c =
 
 pub analyse_arranged-requires : goal.analyse_arranged-requires
 analyse_arranged-requires c =
-    let s = c in
-    record { arranged = (_, arranged (goal.at.analyse_arranged-requires c).Else-lowest-n, passes (goal.at.analyse_arranged-requires c).Else-not-take_rules); in_bounds = (s.requires.counts_kept.1, s.requires.counts_kept.2, s.requires.room.depth_room, s.requires.counts_kept.3) }
+    record { arranged = (_, arranged (goal.at.analyse_arranged-requires c).Else-lowest-n, passes (goal.at.analyse_arranged-requires c).Else-not-take_rules); in_bounds = (c.requires.counts_kept.1, c.requires.counts_kept.2, c.requires.room.depth_room, c.requires.counts_kept.3) }
 
 pub returns : goal.returns
 returns c =

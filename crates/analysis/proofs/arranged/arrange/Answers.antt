@@ -12,12 +12,10 @@ returns-then-order_events c =
 
 pub lowest_on_cycle-requires : goal.lowest_on_cycle-requires
 lowest_on_cycle-requires c =
-    let start = c in
-    let ready = start.requires.0 in
-    let kept = ready.first.kept in record { n_in_bounds = (ready.chains.heads_room, start.requires.1, kept.few_rules, kept.targets_match); chained = (ready.chains.chained, omega (arith, ready.chains.nexts_room, kept.targets_match), ends_wider ready.chains.heads_room kept.sources_below) }
+    let ready = c.requires.0 in
+    let kept = ready.first.kept in record { n_in_bounds = (ready.chains.heads_room, c.requires.1, kept.few_rules, kept.targets_match); chained = (ready.chains.chained, omega (arith, ready.chains.nexts_room, kept.targets_match), ends_wider ready.chains.heads_room kept.sources_below) }
 
 pub returns : goal.returns
 returns c =
-    let start = c in
-    let lowest = lowest_on start.requires.0.first.kept.sources_below ((c.order_events.ensures _ start.requires.0).cyclic c.if-order_events.false) c.lowest_on_cycle.ensures in
+    let lowest = lowest_on c.requires.0.first.kept.sources_below ((c.order_events.ensures _ c.requires.0).cyclic c.if-order_events.false) c.lowest_on_cycle.ensures in
     record { ordered = λ l. absurd (let no : ⊥ = omega (arith, lowest.0) in no); lowest = λ _. lowest.1 }

@@ -7,18 +7,15 @@ loop-v-init c = passed_none _ _
 
 pub on_cycle-requires : goal.on_cycle-requires
 on_cycle-requires c =
-    let start = c in
-    record { v_in_bounds = (omega (arith, c.loop-v-test.true, start.requires.n_in_bounds), start.requires.n_in_bounds.1, start.requires.n_in_bounds.2, start.requires.n_in_bounds.3); chained = start.requires.chained }
+    record { v_in_bounds = (omega (arith, c.loop-v-test.true, c.requires.n_in_bounds), c.requires.n_in_bounds.1, c.requires.n_in_bounds.2, c.requires.n_in_bounds.3); chained = c.requires.chained }
 
 pub returns-then-on_cycle : goal.returns-then-on_cycle
 returns-then-on_cycle c =
-    let b = c in
-    lowest_here _ _ _ b.loop-v.v b.loop-v.invariant (c.on_cycle.ensures.yes c.if-on_cycle.true)
+    lowest_here _ _ _ c.loop-v.v c.loop-v.invariant (c.on_cycle.ensures.yes c.if-on_cycle.true)
 
 pub loop-v-preserved : goal.loop-v-preserved
 loop-v-preserved c =
-    let b = c in
-    passed_more _ _ b.loop-v.v b.loop-v.invariant c.loop-v-test.true (c.on_cycle.ensures.no c.if-on_cycle.false)
+    passed_more _ _ c.loop-v.v c.loop-v.invariant c.loop-v-test.true (c.on_cycle.ensures.no c.if-on_cycle.false)
 
 pub returns : goal.returns
 returns c = lowest_end _ _ _ c.loop-v.v c.loop-v.invariant c.loop-v-test.false

@@ -25,9 +25,8 @@ mark_sources-end-requires c = record {
 
 pub loop-at-init : goal.loop-at-init
 loop-at-init c =
-    let start = c in
     let marked = c.mark_sources-end in
-    (searching_start _ _ start.requires.v_in_bounds.3 _ 1024 _ _ _ _ marked.ensures, marked.auto.seen, marked.auto.list)
+    (searching_start _ _ c.requires.v_in_bounds.3 _ 1024 _ _ _ _ marked.ensures, marked.auto.seen, marked.auto.list)
 
 pub offset_bounds-list-at : goal.offset_bounds-list-at
 offset_bounds-list-at c = record { fits = omega (arith, event_below c.loop-at.invariant.0 c.loop-at.invariant.1 c.requires.v_in_bounds.3 (omega arith) c.requires.chained.2) }
@@ -56,11 +55,9 @@ loop-at-smaller c = omega (arith, event_below c.loop-at.invariant.0 c.loop-at.in
 
 pub loop-at-preserved : goal.loop-at-preserved
 loop-at-preserved c =
-    let at = c in
-    let start = at in
-    let (search, seen-long, list-long) = at.loop-at.invariant in
+    let (search, seen-long, list-long) = c.loop-at.invariant in
     let marked = c.mark_sources-end-in-loop-at in (
-      searching_step _ _ start.requires.v_in_bounds.3 _ _ _ _ _ search (omega arith) _ _ _ marked.ensures,
+      searching_step _ _ c.requires.v_in_bounds.3 _ _ _ _ _ search (omega arith) _ _ _ marked.ensures,
       marked.auto.seen ∙ seen-long,
       marked.auto.list ∙ list-long,
     )

@@ -94,7 +94,7 @@ pub bounds-nexts-rule : goal.bounds-nexts-rule
 bounds-nexts-rule c = omega (arith, (turn (goal.at.bounds-nexts-rule c).In-loop-e).rule_known, few (goal.at.bounds-nexts-rule c).In-loop-e)
 
 pub overflow_cast-e-in-loop-e : goal.overflow_cast-e-in-loop-e
-overflow_cast-e-in-loop-e c = omega (arith, c.type_inv.nexts ((c.loop-e.e - 1)))
+overflow_cast-e-in-loop-e c = omega (arith, c.type_inv.nexts (c.loop-e.e - 1))
 
 pub loop-e-smaller : goal.loop-e-smaller
 loop-e-smaller c = (turn (goal.at.loop-e-smaller c).In-loop-e).e_falls

@@ -45,8 +45,7 @@ shape_of-order c = c.loop-head.invariant.2
 
 pub returns : goal.returns
 returns c =
-    let a = c in
     λ n ts r.
-    let p = a.loop-head.invariant.0 n ts r in
-    let all : a.loop-head.head ≡ a.loop-head.tail = omega (arith, p.clock) in
-    subst (λ (h : ℕ). Serving n c.args.sources.now ts a.loop-head.waiting a.loop-head.order a.loop-head.tail h) all p
+    let p = c.loop-head.invariant.0 n ts r in
+    let all : c.loop-head.head ≡ c.loop-head.tail = omega (arith, p.clock) in
+    subst (λ (h : ℕ). Serving n c.args.sources.now ts c.loop-head.waiting c.loop-head.order c.loop-head.tail h) all p

@@ -22,11 +22,11 @@ here c = let (n, ts, Ds, order, s, k, m₋, r) = c.requires in rule_here n _ ts 
 within : (c : In-loop-e) → Within 1025024000 (get_or c.args.m.now c.args.v (pos 0))
 within c = let held = to_z-of_z w32 (get_or c.args.m.now c.args.v (pos 0)) (record { sfits = c.here-1.given }) in rw held at (here c).y_within
 
-minus : (c : After-least_delay) → to_z w32 (of_z w32 (to_z w32 (of_z w32 ((get_or c.args.m.now c.args.v (pos 0)))) -ℤ to_z w32 (of_z w32 c.least_delay.result))) ≡ to_z w32 (of_z w32 ((get_or c.args.m.now c.args.v (pos 0)))) -ℤ get_or c.args.leasts.now (c.loop-e.e - 1) (pos 0)
+minus : (c : After-least_delay) → to_z w32 (of_z w32 (to_z w32 (of_z w32 (get_or c.args.m.now c.args.v (pos 0))) -ℤ to_z w32 (of_z w32 c.least_delay.result))) ≡ to_z w32 (of_z w32 (get_or c.args.m.now c.args.v (pos 0))) -ℤ get_or c.args.leasts.now (c.loop-e.e - 1) (pos 0)
 minus c =
-    let held : to_z w32 (of_z w32 ((get_or c.args.m.now c.args.v (pos 0)))) ≡ ((get_or c.args.m.now c.args.v (pos 0))) = to_z-of_z w32 ((get_or c.args.m.now c.args.v (pos 0))) (record { sfits = c.here-1.given }) in
+    let held : to_z w32 (of_z w32 (get_or c.args.m.now c.args.v (pos 0))) ≡ (get_or c.args.m.now c.args.v (pos 0)) = to_z-of_z w32 (get_or c.args.m.now c.args.v (pos 0)) (record { sfits = c.here-1.given }) in
     rw c.least_delay.ensures
-    (difference_back w32 1025024000 1001000 ((get_or c.args.m.now c.args.v (pos 0))) _ (lit< tt) ((let it : Within 1025024000 (get_or c.args.m.now c.args.v (pos 0)) = let held = to_z-of_z w32 (get_or c.args.m.now c.args.v (pos 0)) (record { sfits = c.here-1.given }) in rw held at ((let (n, ts, Ds, order, s, k, m₋, r) = c.requires in rule_here n _ ts _ Ds _ _ order s k _ m₋ _ r _ _ _ (c.loop-e.invariant.0 n ts Ds order s k m₋ r) (omega arith))).y_within in it)) ((let (n, ts, Ds, order, s, k, m₋, r) = c.requires in rule_here n _ ts _ Ds _ _ order s k _ m₋ _ r _ _ _ (c.loop-e.invariant.0 n ts Ds order s k m₋ r) (omega arith))).least_within ∙ ap (λ (q : ℤ). q -ℤ get_or c.args.leasts.now (c.loop-e.e - 1) (pos 0)) (sym held))
+    (difference_back w32 1025024000 1001000 (get_or c.args.m.now c.args.v (pos 0)) _ (lit< tt) (let it : Within 1025024000 (get_or c.args.m.now c.args.v (pos 0)) = let held = to_z-of_z w32 (get_or c.args.m.now c.args.v (pos 0)) (record { sfits = c.here-1.given }) in rw held at (let (n, ts, Ds, order, s, k, m₋, r) = c.requires in rule_here n _ ts _ Ds _ _ order s k _ m₋ _ r _ _ _ (c.loop-e.invariant.0 n ts Ds order s k m₋ r) (omega arith)).y_within in it) (let (n, ts, Ds, order, s, k, m₋, r) = c.requires in rule_here n _ ts _ Ds _ _ order s k _ m₋ _ r _ _ _ (c.loop-e.invariant.0 n ts Ds order s k m₋ r) (omega arith)).least_within ∙ ap (λ (q : ℤ). q -ℤ get_or c.args.leasts.now (c.loop-e.e - 1) (pos 0)) (sym held))
 
 pub offset_bounds-m-v : goal.offset_bounds-m-v
 offset_bounds-m-v c = record { fits = omega (arith, event (goal.at.offset_bounds-m-v c).Start) }

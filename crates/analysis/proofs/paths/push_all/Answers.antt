@@ -19,11 +19,11 @@ place c =
     let v : get_or c.args.order.now c.loop-k.k 0 < c.args.n = a.ordered.order_below c.loop-k.k c.loop-k-test.true in
     (omega (arith, a.order_room, c.loop-k-test.true), omega (arith, a.kept.few_events, c.loop-k-test.true), c.loop-k-test.true, omega (arith, r.ready.room, c.loop-k.invariant.1), omega (arith, a.kept.few_events))
 
-is_some : (c : Then-m-v-ne-ABSENT) → get_or c.loop-k.m ((get_or c.args.order.now c.loop-k.k 0)) (pos 0) ≡ absent → ⊥
+is_some : (c : Then-m-v-ne-ABSENT) → get_or c.loop-k.m (get_or c.args.order.now c.loop-k.k 0) (pos 0) ≡ absent → ⊥
 is_some c e = c.if-m-v-ne-ABSENT.true (ap (of_z w32) e)
 
 abbrev ready : (c : Then-m-v-ne-ABSENT) → (ts : List ℕ) (Ds : List ℤ) (s : ℕ) (m₋ : List ℤ) → PassReady c.args.n c.args.sources.now ts c.args.leasts.now Ds c.args.heads.now c.args.nexts.now c.args.order.now s m₋ c.args.m.now →
-    PushReady c.args.n c.args.sources.now ts c.args.leasts.now Ds c.args.heads.now c.args.nexts.now c.args.order.now s c.loop-k.k ((get_or c.args.order.now c.loop-k.k 0)) m₋ c.loop-k.m
+    PushReady c.args.n c.args.sources.now ts c.args.leasts.now Ds c.args.heads.now c.args.nexts.now c.args.order.now s c.loop-k.k (get_or c.args.order.now c.loop-k.k 0) m₋ c.loop-k.m
 ready c ts Ds s m₋ r =
     record {
       ready = record { arranged = r.ready.arranged; sized = r.ready.sized; source_known = r.ready.source_known; room = omega (arith, r.ready.room, c.loop-k.invariant.1) };

@@ -13,7 +13,4 @@ returns-then-times-ne0 c = root_broken _ _ _ (λ e. c.if-times-ne0.true (ap (of_
 
 pub returns : goal.returns
 returns c =
-    let marked = c in
-    let branch = marked in
-    let start = branch in
-    events_judged _ _ _ (sound_of start.requires.graph) (sym (to_z-of_z w64 _ (record { sfits = branch.t11-1.given })) ∙ ap (to_z w64) branch.if-times-ne0.false) _ _ _ (met_root 1024) (met_at_root 1024 (omega arith)) marked.mark_rules-lowest.ensures _ c.lowest_unmet.ensures
+    events_judged _ _ _ (sound_of c.requires.graph) (sym (to_z-of_z w64 _ (record { sfits = c.t11-1.given })) ∙ ap (to_z w64) c.if-times-ne0.false) _ _ _ (met_root 1024) (met_at_root 1024 (omega arith)) c.mark_rules-lowest.ensures _ c.lowest_unmet.ensures

@@ -6,13 +6,11 @@ loop-v-init c = passed_none _ _
 
 pub returns-then-not-met-v : goal.returns-then-not-met-v
 returns-then-not-met-v c =
-    let b = c in
-    lowest_here _ _ _ b.loop-v.v b.loop-v.invariant c.if-not-met-v.true
+    lowest_here _ _ _ c.loop-v.v c.loop-v.invariant c.if-not-met-v.true
 
 pub loop-v-preserved : goal.loop-v-preserved
 loop-v-preserved c =
-    let b = c in
-    passed_more _ _ b.loop-v.v b.loop-v.invariant c.loop-v-test.true c.if-not-met-v.false
+    passed_more _ _ c.loop-v.v c.loop-v.invariant c.loop-v-test.true c.if-not-met-v.false
 
 pub returns : goal.returns
 returns c = lowest_end _ _ _ c.loop-v.v c.loop-v.invariant c.loop-v-test.false

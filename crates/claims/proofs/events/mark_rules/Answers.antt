@@ -9,15 +9,13 @@ use Rattle.claims.proofs.events.mark_rules.Goals.{then-meets, else-meets, In-loo
 
 -- the rule at which a turn stands
 listed : (c : In-loop-i) →
-    let start = c in
-    RuleListed start.args.sources.now start.args.targets.now start.args.leasts.now start.args.mosts.now start.args.times.now start.args.delays.now c.loop-i.i
+    RuleListed c.args.sources.now c.args.targets.now c.args.leasts.now c.args.mosts.now c.args.times.now c.args.delays.now c.loop-i.i
 listed c = rule_listed c.requires.0 c.loop-i.i c.loop-i-test.true
 
 room : (c : In-loop-i) → get_or c.args.targets.now c.loop-i.i 0 < length c.loop-i.met
 room c =
-    let start = c in
-    let counts = start.requires.0.graph.sized.counts in
-    omega (arith, (listed c).target_timed, start.requires.0.times_length, counts.few_events, start.requires.1, c.loop-i.invariant.1.same_length)
+    let counts = c.requires.0.graph.sized.counts in
+    omega (arith, (listed c).target_timed, c.requires.0.times_length, counts.few_events, c.requires.1, c.loop-i.invariant.1.same_length)
 
 pub loop-i-init : goal.loop-i-init
 loop-i-init c = (omega arith, marked_none _ _ _ _)
@@ -33,16 +31,11 @@ bounds-met-target c = room (goal.at.bounds-met-target c).In-loop-i
 
 pub loop-i-preserved : goal.loop-i-preserved
 loop-i-preserved c =
-    let m = c in
-    let l = m in
-    let h = l in
-    let v = h in
-    let loop = v in
-    let inv = loop.loop-i.invariant.1 in (
+    let inv = c.loop-i.invariant.1 in (
       omega arith,
       elim c.if-meets.branch [
-        | then-meets t ↦ marked_met _ _ _ _ _ _ _ inv v.rule_verdict-verdict.result v.rule_verdict-verdict.ensures _ _ h.handed_on.ensures l.lesser-lowest.ensures (room (goal.at.loop-i-preserved c).In-loop-i) (sym m.meets.ensures ∙ t.if-meets.true) _ t.met-is
-        | else-meets t ↦ marked_same _ _ _ _ _ _ _ inv v.rule_verdict-verdict.result v.rule_verdict-verdict.ensures _ _ h.handed_on.ensures l.lesser-lowest.ensures (sym m.meets.ensures ∙ t.if-meets.false) _ t.met-is
+        | then-meets t ↦ marked_met _ _ _ _ _ _ _ inv c.rule_verdict-verdict.result c.rule_verdict-verdict.ensures _ _ c.handed_on.ensures c.lesser-lowest.ensures (room (goal.at.loop-i-preserved c).In-loop-i) (sym c.meets.ensures ∙ t.if-meets.true) _ t.met-is
+        | else-meets t ↦ marked_same _ _ _ _ _ _ _ inv c.rule_verdict-verdict.result c.rule_verdict-verdict.ensures _ _ c.handed_on.ensures c.lesser-lowest.ensures (sym c.meets.ensures ∙ t.if-meets.false) _ t.met-is
       ],
     )
 

@@ -15,8 +15,7 @@ held : (c : Else-below_all) →
     to_z w64 (of_z w64 (to_z w64 (of_z w64 arg.time) +ℤ to_z w64 (of_z w64 arg.delay))) ≡ arg.time +ℤ arg.delay
 held c =
     let f = c.ranges in
-    let above = c in
-    sum_back _ _ _ f.time f.delay f.end above.above_all.ensures c.below_all.ensures above.if-above_all.false c.if-below_all.false
+    sum_back _ _ _ f.time f.delay f.end c.above_all.ensures c.below_all.ensures c.if-above_all.false c.if-below_all.false
 
 pub returns-then-above_all : goal.returns-then-above_all
 returns-then-above_all c =
@@ -31,8 +30,7 @@ returns-then-below_all c =
 pub overflow_add-sum : goal.overflow_add-sum
 overflow_add-sum c =
     let f = c.ranges in
-    let above = c in
-    sum_fits _ _ _ f.time f.delay f.end above.above_all.ensures c.below_all.ensures above.if-above_all.false c.if-below_all.false
+    sum_fits _ _ _ f.time f.delay f.end c.above_all.ensures c.below_all.ensures c.if-above_all.false c.if-below_all.false
 
 pub returns-then-sum-end : goal.returns-then-sum-end
 returns-then-sum-end c = omega (linear, held (goal.at.returns-then-sum-end c).Else-below_all, to_z-of_z c.ranges.end, c.if-sum-end.true)

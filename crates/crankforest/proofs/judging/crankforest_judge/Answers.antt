@@ -4,9 +4,8 @@ use Rattle.crankforest.proofs.judging.crankforest_judge.Goals as goal
 
 pub returns : goal.returns
 returns c =
-    let judged = c in
     record {
-      judgement = judged.judge-judgement.result;
-      judged = rw (to_z-of_z judged.ranges.claimed) at judged.judge-judgement.ensures;
+      judgement = c.judge-judgement.result;
+      judged = rw (to_z-of_z c.ranges.claimed) at c.judge-judgement.ensures;
       numbers = c.as_numbers-numbers.ensures;
     }

@@ -21,20 +21,18 @@ returns-then-ordinary-ne0 c =
 
 pub write_gaps-requires : goal.write_gaps-requires
 write_gaps-requires c =
-    let start = c in
     let call = c.schedule-ordinary in
     let found = call.ensures.answered.found c.if-ordinary-ne0.false in
-    let counts = found.graph.sized.counts in record { in_bounds = (found.source_known, omega (arith, call.ensures.written.times_length, counts.few_events), omega (arith, start.requires, counts.few_events)); numbers_within = times_small found.graph found.source_known call.new.delays call.new.times (call.ensures.written.schedule c.if-ordinary-ne0.false) }
+    let counts = found.graph.sized.counts in record { in_bounds = (found.source_known, omega (arith, call.ensures.written.times_length, counts.few_events), omega (arith, c.requires, counts.few_events)); numbers_within = times_small found.graph found.source_known call.new.delays call.new.times (call.ensures.written.schedule c.if-ordinary-ne0.false) }
 
 pub settle-requires : goal.settle-requires
 settle-requires c =
-    let start = c in
     let call = c.schedule-ordinary in
     let zero = c.if-ordinary-ne0.false in
     let found = call.ensures.answered.found zero in
     let counts = found.graph.sized.counts in
     let written = c.write_gaps in
-    record { event_graph = found.graph; n_in_bounds = (omega (arith, written.auto.gaps, start.requires, counts.few_events), gaps_small found.graph found.source_known call.new.delays call.new.times (call.ensures.written.schedule zero) written.ensures) }
+    record { event_graph = found.graph; n_in_bounds = (omega (arith, written.auto.gaps, c.requires, counts.few_events), gaps_small found.graph found.source_known call.new.delays call.new.times (call.ensures.written.schedule zero) written.ensures) }
 
 pub returns-then-not-settle : goal.returns-then-not-settle
 returns-then-not-settle c =

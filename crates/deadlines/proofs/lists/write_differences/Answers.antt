@@ -35,19 +35,18 @@ overflow_sub-delays c =
 
 pub loop-i-preserved : goal.loop-i-preserved
 loop-i-preserved c =
-    let b = c in
     let r = timed (goal.at.loop-i-preserved c).In-loop-i in
     filling_more
     (pos 0)
     _
     _
     _
-    b.loop-i.i
+    c.loop-i.i
     _
     _
-    b.requires.lengths.2
-    b.loop-i.invariant
-    b.loop-i-test.true
+    c.requires.lengths.2
+    c.loop-i.invariant
+    c.loop-i-test.true
     (difference_back w64 4092000002 4092000002 _ _ (lit< tt) r.target_within r.source_within)
 
 pub shape_of-delays : goal.shape_of-delays

@@ -37,12 +37,10 @@ overflow_add-numbers c = word_sum_fits (lit< tt) c.requires.3 c.requires.2
 
 pub returns-then-bound-numbers : goal.returns-then-bound-numbers
 returns-then-bound-numbers c =
-    let start = c in
     let call = c.cut_off-bound in
-    lowered _ start.args.from _ start.args.weight call.result start.requires.3 start.requires.2 (record { sfits = call.type_inv }) (record { sfits = c.t9-1.given }) call.ensures start.requires.1 c.if-bound-numbers.true
+    lowered _ c.args.from _ c.args.weight call.result c.requires.3 c.requires.2 (record { sfits = call.type_inv }) (record { sfits = c.t9-1.given }) call.ensures c.requires.1 c.if-bound-numbers.true
 
 pub returns : goal.returns
 returns c =
-    let start = c in
     let call = c.cut_off-bound in
-    kept _ start.args.from start.args.to start.args.weight call.result start.requires.3 start.requires.2 (record { sfits = call.type_inv }) (record { sfits = c.t9-1.given }) call.ensures c.if-bound-numbers.false
+    kept _ c.args.from c.args.to c.args.weight call.result c.requires.3 c.requires.2 (record { sfits = call.type_inv }) (record { sfits = c.t9-1.given }) call.ensures c.if-bound-numbers.false

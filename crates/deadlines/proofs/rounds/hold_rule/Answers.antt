@@ -22,22 +22,19 @@ overflow_sub-weight c = word_minus_fits (lit< tt) c.requires.source_in_bounds.2
 
 pub hold-back-requires : goal.hold-back-requires
 hold-back-requires c =
-    let start = c in
     let call = c.hold-forth in
-    let weight-within = subst (Within 1000000) (sym (word_minus (lit< tt) start.requires.source_in_bounds.2)) (within_negation start.requires.source_in_bounds.2) in
-    let most_within = subst (Within 1000000) (sym (read_back w64 1000000 start.args.most (lit< tt) start.requires.source_in_bounds.3)) start.requires.source_in_bounds.3 in (
-      subst (λ (m : ℕ). start.args.target < m) (sym call.auto.numbers) start.requires.source_in_bounds.1,
-      subst (λ (m : ℕ). start.args.source < m) (sym call.auto.numbers) start.requires.source_in_bounds.0,
+    let weight-within = subst (Within 1000000) (sym (word_minus (lit< tt) c.requires.source_in_bounds.2)) (within_negation c.requires.source_in_bounds.2) in
+    let most_within = subst (Within 1000000) (sym (read_back w64 1000000 c.args.most (lit< tt) c.requires.source_in_bounds.3)) c.requires.source_in_bounds.3 in (
+      subst (λ (m : ℕ). c.args.target < m) (sym call.auto.numbers) c.requires.source_in_bounds.1,
+      subst (λ (m : ℕ). c.args.source < m) (sym call.auto.numbers) c.requires.source_in_bounds.0,
       search (weight-within, most_within),
-      call.ensures.within _ start.requires.within.1,
+      call.ensures.within _ c.requires.within.1,
     )
 
 pub returns-then-forth : goal.returns-then-forth
 returns-then-forth c =
-    let start = c in
-    rule_forth (read-arc (read_back w64 1000000 _ (lit< tt) start.requires.source_in_bounds.3) c.hold-forth.ensures) (read-arc (word_minus (lit< tt) start.requires.source_in_bounds.2) c.hold-back.ensures) c.if-forth.true
+    rule_forth (read-arc (read_back w64 1000000 _ (lit< tt) c.requires.source_in_bounds.3) c.hold-forth.ensures) (read-arc (word_minus (lit< tt) c.requires.source_in_bounds.2) c.hold-back.ensures) c.if-forth.true
 
 pub returns : goal.returns
 returns c =
-    let start = c in
-    rule_back (read-arc (read_back w64 1000000 _ (lit< tt) start.requires.source_in_bounds.3) c.hold-forth.ensures) (read-arc (word_minus (lit< tt) start.requires.source_in_bounds.2) c.hold-back.ensures) c.if-forth.false
+    rule_back (read-arc (read_back w64 1000000 _ (lit< tt) c.requires.source_in_bounds.3) c.hold-forth.ensures) (read-arc (word_minus (lit< tt) c.requires.source_in_bounds.2) c.hold-back.ensures) c.if-forth.false

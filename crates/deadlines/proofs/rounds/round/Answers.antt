@@ -42,21 +42,19 @@ bounds-mosts-i c = let counts = c.requires.sized.counts in omega (arith, counts.
 
 pub hold_rule-requires : goal.hold_rule-requires
 hold_rule-requires c =
-    let start = c in
     let loop = c.loop-i in
     let taken = c.loop-i-test.true in
-    let ends = start.requires.sized.ends loop.i taken in
-    let delays = start.requires.sized.delays loop.i taken in
-    let room : start.args.n ≤ length loop.numbers = omega (arith, loop.invariant.1, start.requires.n_in_bounds.0) in record { source_in_bounds = (omega (arith, ends.source_known), omega (arith, ends.target_known), held-within delays.least_within, held-within delays.most_within); within = (loop.invariant.0.within _ ends.source_known, loop.invariant.0.within _ ends.target_known) }
+    let ends = c.requires.sized.ends loop.i taken in
+    let delays = c.requires.sized.delays loop.i taken in
+    let room : c.args.n ≤ length loop.numbers = omega (arith, loop.invariant.1, c.requires.n_in_bounds.0) in record { source_in_bounds = (omega (arith, ends.source_known), omega (arith, ends.target_known), held-within delays.least_within, held-within delays.most_within); within = (loop.invariant.0.within _ ends.source_known, loop.invariant.0.within _ ends.target_known) }
 
 pub loop-i-preserved : goal.loop-i-preserved
 loop-i-preserved c =
-    let start = c in
     let loop = c.loop-i in
     let taken = c.loop-i-test.true in
     let call = c.hold_rule in
-    let ends = start.requires.sized.ends loop.i taken in
-    let delays = start.requires.sized.delays loop.i taken in
+    let ends = c.requires.sized.ends loop.i taken in
+    let delays = c.requires.sized.delays loop.i taken in
     let rule = read-rule delays.least_within delays.most_within call.ensures in (
       rules_turn ends loop.invariant.0 rule (elim c.if-hold_rule.branch [ then-hold_rule w ↦ inl (w.if-hold_rule.true, w.changed-is) | else-hold_rule w ↦ inr (w.if-hold_rule.false, w.changed-is) ]),
       call.auto.numbers ∙ loop.invariant.1,

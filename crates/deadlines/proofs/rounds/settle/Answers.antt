@@ -8,15 +8,13 @@ loop-done-init c = rounds_none c.requires.event_graph c.requires.n_in_bounds.1
 
 pub round-requires : goal.round-requires
 round-requires c =
-    let start = c in
     let done = c.loop-done.invariant in
-    record { sized = start.requires.event_graph.sized; n_in_bounds = (omega (arith, done.same_length, start.requires.n_in_bounds.0), done.within) }
+    record { sized = c.requires.event_graph.sized; n_in_bounds = (omega (arith, done.same_length, c.requires.n_in_bounds.0), done.within) }
 
 pub above_floor-requires : goal.above_floor-requires
 above_floor-requires c =
-    let start = c in
     let done = c.loop-done.invariant in
-    omega (arith, c.round.auto.numbers, done.same_length, start.requires.n_in_bounds.0)
+    omega (arith, c.round.auto.numbers, done.same_length, c.requires.n_in_bounds.0)
 
 pub shape_of-numbers-then-not-round : goal.shape_of-numbers-then-not-round
 shape_of-numbers-then-not-round c =
@@ -25,17 +23,14 @@ shape_of-numbers-then-not-round c =
 
 pub returns-then-not-round : goal.returns-then-not-round
 returns-then-not-round c =
-    let start = c in
     let done = c.loop-done.invariant in
     let call = c.round in
-    rounds_settled start.requires.event_graph done call.ensures call.auto.numbers c.if-not-round.true c.above_floor.ensures
+    rounds_settled c.requires.event_graph done call.ensures call.auto.numbers c.if-not-round.true c.above_floor.ensures
 
 pub loop-done-preserved : goal.loop-done-preserved
 loop-done-preserved c =
-    let start = c in
-    let turn = c in
     let call = c.round in
-    rounds_more start.requires.event_graph turn.loop-done.invariant call.ensures call.auto.numbers c.if-not-round.false turn.loop-done-test.true
+    rounds_more c.requires.event_graph c.loop-done.invariant call.ensures call.auto.numbers c.if-not-round.false c.loop-done-test.true
 
 pub shape_of-numbers : goal.shape_of-numbers
 shape_of-numbers c = c.loop-done.invariant.same_length

@@ -24,13 +24,11 @@ loop-j-init c = passed_none _ _
 
 pub returns-then-marks-j-gt1 : goal.returns-then-marks-j-gt1
 returns-then-marks-j-gt1 c =
-    let b = c in
-    lowest_here _ _ _ b.loop-j.j b.loop-j.invariant (neither _ _ c.if-marks-j-gt1.true)
+    lowest_here _ _ _ c.loop-j.j c.loop-j.invariant (neither _ _ c.if-marks-j-gt1.true)
 
 pub loop-j-preserved : goal.loop-j-preserved
 loop-j-preserved c =
-    let b = c in
-    passed_more _ _ b.loop-j.j b.loop-j.invariant c.loop-j-test.true (zero-or-one _ c.if-marks-j-gt1.false)
+    passed_more _ _ c.loop-j.j c.loop-j.invariant c.loop-j-test.true (zero-or-one _ c.if-marks-j-gt1.false)
 
 pub returns : goal.returns
 returns c = lowest_end _ _ _ c.loop-j.j c.loop-j.invariant c.loop-j-test.false

@@ -26,7 +26,7 @@ some c = c.if-p-eq0.false
 few_events : (c : Else-p-gt-MAX_PROCESS_EVENTS) → c.args.p ≤ 1023
 few_events c = omega (arith, c.if-p-gt-MAX_PROCESS_EVENTS.false)
 
-lists : (c : Else-start_mosts-templates) → ListsKept ((process_of c.args.p c.args.sources.now c.args.targets.now c.args.leasts.now c.args.mosts.now c.args.marks.now c.args.start_leasts.now c.args.start_mosts.now))
+lists : (c : Else-start_mosts-templates) → ListsKept (process_of c.args.p c.args.sources.now c.args.targets.now c.args.leasts.now c.args.mosts.now c.args.marks.now c.args.start_leasts.now c.args.start_mosts.now)
 lists c =
     record {
       few_templates = c.if-templates-gt-MAX_RULES.false;

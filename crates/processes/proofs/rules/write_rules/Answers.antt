@@ -7,7 +7,7 @@ use Rattle.processes.proofs.rules.write_rules.Goals as goal
 use Rattle.processes.proofs.rules.write_rules.Goals.{Start, In-loop-i}
 
 -- where a turn starts
-turn : (c : In-loop-i) → TemplateTurn ((process_of c.args.p c.args.sources.now c.args.targets.now c.args.leasts.now c.args.mosts.now c.args.marks.now c.args.start_leasts.now c.args.start_mosts.now)) c.loop-i.k c.loop-i.j c.loop-i.i
+turn : (c : In-loop-i) → TemplateTurn (process_of c.args.p c.args.sources.now c.args.targets.now c.args.leasts.now c.args.mosts.now c.args.marks.now c.args.start_leasts.now c.args.start_mosts.now) c.loop-i.k c.loop-i.j c.loop-i.i
 turn c = turn_kept c.requires.process_kept c.loop-i.invariant c.loop-i-test.true
 
 next-copy : (T k j i : ℕ) → i ≡ k * T + j → j + 1 ≡ T → i + 1 ≡ (k + 1) * T + 0
@@ -21,11 +21,9 @@ loop-i-init c = writing_none
 
 pub write_rule-requires : goal.write_rule-requires
 write_rule-requires c =
-    let b = c in
     let t = turn (goal.at.write_rule-requires c).In-loop-i in
-    let w = b.loop-i.invariant in
-    let start = b in
-    let counts = start.requires.process_kept.counts in
+    let w = c.loop-i.invariant in
+    let counts = c.requires.process_kept.counts in
     record {
       lengths = (counts.targets_match, counts.leasts_match, counts.mosts_match, counts.marks_match, counts.start_leasts_match, counts.start_mosts_match, t.few_templates, t.is_template);
       occurrences = (t.source_small, t.target_small);
@@ -46,23 +44,21 @@ loop-i-smaller-then-j-templates c = omega (arith, c.loop-i-test.true)
 
 pub loop-i-preserved-then-j-templates : goal.loop-i-preserved-then-j-templates
 loop-i-preserved-then-j-templates c =
-    let b = c in
     let t = turn (goal.at.loop-i-preserved-then-j-templates c).In-loop-i in
-    let w = b.loop-i.invariant in
-    writing_more b.requires.copies_in_bounds w b.loop-i-test.true t.is_template c.write_rule.ensures t.marked
-    (b.loop-i.k + 1) 0 (next-copy _ _ _ _ w.place c.if-j-templates.true) (omega (arith, t.is_template))
+    let w = c.loop-i.invariant in
+    writing_more c.requires.copies_in_bounds w c.loop-i-test.true t.is_template c.write_rule.ensures t.marked
+    (c.loop-i.k + 1) 0 (next-copy _ _ _ _ w.place c.if-j-templates.true) (omega (arith, t.is_template))
 
 pub loop-i-smaller : goal.loop-i-smaller
 loop-i-smaller c = omega (arith, c.loop-i-test.true)
 
 pub loop-i-preserved : goal.loop-i-preserved
 loop-i-preserved c =
-    let b = c in
     let t = turn (goal.at.loop-i-preserved c).In-loop-i in
-    let w = b.loop-i.invariant in
+    let w = c.loop-i.invariant in
     let other = c.if-j-templates.false in
-    writing_more b.requires.copies_in_bounds w b.loop-i-test.true t.is_template c.write_rule.ensures t.marked
-    b.loop-i.k (b.loop-i.j + 1) (omega (arith, w.place)) (omega (arith, t.is_template, other))
+    writing_more c.requires.copies_in_bounds w c.loop-i-test.true t.is_template c.write_rule.ensures t.marked
+    c.loop-i.k (c.loop-i.j + 1) (omega (arith, w.place)) (omega (arith, t.is_template, other))
 
 pub shape_of-out_sources : goal.shape_of-out_sources
 shape_of-out_sources c = c.loop-i.invariant.sources_length

@@ -57,19 +57,18 @@ capped-requires c =
 
 pub loop-i-preserved : goal.loop-i-preserved
 loop-i-preserved c =
-    let b = c in
     let r = timed (goal.at.loop-i-preserved c).In-loop-i in
     filling_more
     (pos 0)
     _
     _
     _
-    b.loop-i.i
+    c.loop-i.i
     _
     _
-    b.requires.lengths.3
-    b.loop-i.invariant
-    b.loop-i-test.true
+    c.requires.lengths.3
+    c.loop-i.invariant
+    c.loop-i-test.true
     (written _ r.source_within r.target_within r.most_within (record { sfits = c.capped.type_inv }) c.capped.ensures)
 
 pub shape_of-delays : goal.shape_of-delays

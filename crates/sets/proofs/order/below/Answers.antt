@@ -11,5 +11,4 @@ returns-then-b_unlimited c = below_always _ _ _ _ c.if-a_unlimited.false c.if-b_
 
 pub returns : goal.returns
 returns c =
-    let s = c in
-    rw (to_z-of_z s.ranges.a, to_z-of_z s.ranges.b) (below_numbers _ _ _ _ c.if-a_unlimited.false c.if-b_unlimited.false)
+    rw (to_z-of_z c.ranges.a, to_z-of_z c.ranges.b) (below_numbers _ _ _ _ c.if-a_unlimited.false c.if-b_unlimited.false)

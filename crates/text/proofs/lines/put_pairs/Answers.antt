@@ -12,18 +12,16 @@ loop-from-init c =
 
 pub put_pairs_from-at-requires : goal.put_pairs_from-at-requires
 put_pairs_from-at-requires c =
-    let b = c in
-    let h = b.put_bytes-at.ensures.fits (omega (arith, b.requires.in_bounds.0)) in
-    let graph = b.requires.graph in
-    (b.requires.in_bounds.1, b.loop-from-test.true, b.requires.in_bounds.2, table_room b.loop-from.invariant b.loop-from-test.true b.requires.in_bounds.1 (omega (arith, b.requires.in_bounds.0, h.after, appended_length h)), small_entries graph.1 graph.3 graph.2)
+    let h = c.put_bytes-at.ensures.fits (omega (arith, c.requires.in_bounds.0)) in
+    let graph = c.requires.graph in
+    (c.requires.in_bounds.1, c.loop-from-test.true, c.requires.in_bounds.2, table_room c.loop-from.invariant c.loop-from-test.true c.requires.in_bounds.1 (omega (arith, c.requires.in_bounds.0, h.after, appended_length h)), small_entries graph.1 graph.3 graph.2)
 
 pub loop-from-smaller : goal.loop-from-smaller
 loop-from-smaller c = omega (arith, c.loop-from-test.true)
 
 pub loop-from-preserved : goal.loop-from-preserved
 loop-from-preserved c =
-    let b = c in
-    table_next b.loop-from.invariant b.loop-from-test.true c.put_pairs_from-at.ensures
+    table_next c.loop-from.invariant c.loop-from-test.true c.put_pairs_from-at.ensures
 
 pub shape_of-out : goal.shape_of-out
 shape_of-out c = appended_length c.loop-from.invariant.appended ∙ put_length c.put_bytes-at.ensures

@@ -12,14 +12,13 @@ overflow_sub-least c = minus_fits _ (c.requires.4.each _ _ c.loop-to-test.true c
 
 pub put_pair-next-requires : goal.put_pair-next-requires
 put_pair-next-requires c =
-    let b = c in
-    let pre = b.requires in
+    let pre = c.requires in
     let small = pre.4 in (
       omega arith,
       omega arith,
-      minus_within _ (small.each _ _ b.loop-to-test.true pre.1),
-      word_within _ (small.each _ _ pre.1 b.loop-to-test.true),
-      row_room b.loop-to.invariant b.loop-to-test.true pre.0 pre.3,
+      minus_within _ (small.each _ _ c.loop-to-test.true pre.1),
+      word_within _ (small.each _ _ pre.1 c.loop-to-test.true),
+      row_room c.loop-to.invariant c.loop-to-test.true pre.0 pre.3,
     )
 
 pub loop-to-smaller : goal.loop-to-smaller
@@ -27,8 +26,7 @@ loop-to-smaller c = omega (arith, c.loop-to-test.true)
 
 pub loop-to-preserved : goal.loop-to-preserved
 loop-to-preserved c =
-    let b = c in
-    row_next b.loop-to.invariant b.requires.4 b.loop-to-test.true c.put_pair-next.ensures
+    row_next c.loop-to.invariant c.requires.4 c.loop-to-test.true c.put_pair-next.ensures
 
 pub shape_of-out : goal.shape_of-out
 shape_of-out c = appended_length c.loop-to.invariant.appended

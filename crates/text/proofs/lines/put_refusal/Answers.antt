@@ -6,17 +6,9 @@ use Rattle.text.proofs.lines.put_refusal.Goals as goal
 
 pub shape_of-out : goal.shape_of-out
 shape_of-out c =
-    let place = c in
-    let comma = place in
-    let number = comma in
-    let word = number in
-    put_length c.put_bytes.ensures ∙ put_length place.put_natural-last.ensures.put ∙ put_length comma.put_byte-comma.ensures ∙ put_length number.put_natural-number.ensures.put ∙ put_length word.put_bytes-word.ensures
+    put_length c.put_bytes.ensures ∙ put_length c.put_natural-last.ensures.put ∙ put_length c.put_byte-comma.ensures ∙ put_length c.put_natural-number.ensures.put ∙ put_length c.put_bytes-word.ensures
 
 pub returns : goal.returns
 returns c =
-    let place = c in
-    let comma = place in
-    let number = comma in
-    let word = number in
-    let pre = word.requires in
-    refused_put _ _ pre.1 pre.2 pre.0 word.put_bytes-word.ensures number.put_natural-number.ensures comma.put_byte-comma.ensures place.put_natural-last.ensures c.put_bytes.ensures
+    let pre = c.requires in
+    refused_put _ _ pre.1 pre.2 pre.0 c.put_bytes-word.ensures c.put_natural-number.ensures c.put_byte-comma.ensures c.put_natural-last.ensures c.put_bytes.ensures

@@ -11,81 +11,63 @@ event_and_comma-source-requires c = c.requires
 
 pub returns-then-not-source : goal.returns-then-not-source
 returns-then-not-source c =
-    let one = c in
-    no_row (λ p. part_wrong one.event_and_comma-source.ensures (not-true _ c.if-not-source.true) p) one.requires.0 c.no_row.ensures
+    no_row (λ p. part_wrong c.event_and_comma-source.ensures (not-true _ c.if-not-source.true) p) c.requires.0 c.no_row.ensures
 
 pub event_and_comma-target-requires : goal.event_and_comma-target-requires
 event_and_comma-target-requires c =
-    let one = c in
-    (one.event_and_comma-source.ensures.within, one.requires.1)
+    (c.event_and_comma-source.ensures.within, c.requires.1)
 
 pub returns-then-not-target : goal.returns-then-not-target
 returns-then-not-target c =
-    let two = c in
-    let one = two in
     no_row
-    (λ p. part_wrong two.event_and_comma-target.ensures (not-true _ c.if-not-target.true) (after_event one.event_and_comma-source.ensures (not-false _ two.if-not-source.false) p))
-    one.requires.0
+    (λ p. part_wrong c.event_and_comma-target.ensures (not-true _ c.if-not-target.true) (after_event c.event_and_comma-source.ensures (not-false _ c.if-not-source.false) p))
+    c.requires.0
     c.no_row-then-not-target.ensures
 
 pub delay_and_comma-least-requires : goal.delay_and_comma-least-requires
 delay_and_comma-least-requires c =
-    let two = c in
-    (two.event_and_comma-target.ensures.within, two.requires.1)
+    (c.event_and_comma-target.ensures.within, c.requires.1)
 
 pub returns-then-not-least : goal.returns-then-not-least
 returns-then-not-least c =
-    let three = c in
-    let two = three in
-    let one = two in
     no_row
     (λ p. part_wrong
-    three.delay_and_comma-least.ensures
+    c.delay_and_comma-least.ensures
     (not-true _ c.if-not-least.true)
-    (after_event two.event_and_comma-target.ensures (not-false _ three.if-not-target.false) (after_event one.event_and_comma-source.ensures (not-false _ two.if-not-source.false) p)))
-    one.requires.0
+    (after_event c.event_and_comma-target.ensures (not-false _ c.if-not-target.false) (after_event c.event_and_comma-source.ensures (not-false _ c.if-not-source.false) p)))
+    c.requires.0
     c.no_row-then-not-least.ensures
 
 pub delay_and_end-most-requires : goal.delay_and_end-most-requires
 delay_and_end-most-requires c =
-    let three = c in
-    (three.delay_and_comma-least.ensures.within, three.requires.1)
+    (c.delay_and_comma-least.ensures.within, c.requires.1)
 
 pub returns-then-not-most : goal.returns-then-not-most
 returns-then-not-most c =
-    let four = c in
-    let three = four in
-    let two = three in
-    let one = two in
     no_row
     (λ p. part_wrong
-    four.delay_and_end-most.ensures
+    c.delay_and_end-most.ensures
     (not-true _ c.if-not-most.true)
     (after_delay
-    three.delay_and_comma-least.ensures
-    (not-false _ four.if-not-least.false)
-    (after_event two.event_and_comma-target.ensures (not-false _ three.if-not-target.false) (after_event one.event_and_comma-source.ensures (not-false _ two.if-not-source.false) p))))
-    one.requires.0
+    c.delay_and_comma-least.ensures
+    (not-false _ c.if-not-least.false)
+    (after_event c.event_and_comma-target.ensures (not-false _ c.if-not-target.false) (after_event c.event_and_comma-source.ensures (not-false _ c.if-not-source.false) p))))
+    c.requires.0
     c.no_row-then-not-most.ensures
 
 pub returns : goal.returns
 returns c =
-    let end = c in
-    let four = end in
-    let three = four in
-    let two = three in
-    let one = two in
-    let least = to_z-of_z {w = w64} {z = three.delay_and_comma-least.result.value} (record { sfits = c.struct_told-1.given.1.0.1 }) in
-    let most = to_z-of_z {w = w64} {z = four.delay_and_end-most.result.value} (record { sfits = c.struct_told-2-1.given.1.0.1 }) in
+    let least = to_z-of_z {w = w64} {z = c.delay_and_comma-least.result.value} (record { sfits = c.struct_told-1.given.1.0.1 }) in
+    let most = to_z-of_z {w = w64} {z = c.delay_and_end-most.result.value} (record { sfits = c.struct_told-2-1.given.1.0.1 }) in
     rw
     (least, most)
     (row_found
-    one.event_and_comma-source.ensures
-    (not-false _ two.if-not-source.false)
-    two.event_and_comma-target.ensures
-    (not-false _ three.if-not-target.false)
-    three.delay_and_comma-least.ensures
-    (not-false _ four.if-not-least.false)
-    four.delay_and_end-most.ensures
-    (not-false _ end.if-not-most.false)
-    one.requires.0)
+    c.event_and_comma-source.ensures
+    (not-false _ c.if-not-source.false)
+    c.event_and_comma-target.ensures
+    (not-false _ c.if-not-target.false)
+    c.delay_and_comma-least.ensures
+    (not-false _ c.if-not-least.false)
+    c.delay_and_end-most.ensures
+    (not-false _ c.if-not-most.false)
+    c.requires.0)

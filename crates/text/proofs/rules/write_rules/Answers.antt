@@ -68,15 +68,13 @@ overflow_add-i c = record { fits = omega (arith, few (goal.at.overflow_add-i c).
 
 pub loop-at-smaller : goal.loop-at-smaller
 loop-at-smaller c =
-    let b = c in
-    omega (arith, row_later b.loop-at.invariant b.loop-at-test.true b.rule_row-found.ensures, b.rule_row-found.ensures.within)
+    omega (arith, row_later c.loop-at.invariant c.loop-at-test.true c.rule_row-found.ensures, c.rule_row-found.ensures.within)
 
 pub loop-at-preserved : goal.loop-at-preserved
 loop-at-preserved c =
-    let b = c in
     let told = c.struct_told-in-loop-at-1.given in
-    held b.loop-at.leasts b.loop-at.mosts b.loop-at.i (record { sfits = told.1.1.1.0.1 }) (record { sfits = told.1.1.1.1.0.1 })
-    (writing_more b.loop-at.invariant b.loop-at-test.true b.rule_row-found.ensures)
+    held c.loop-at.leasts c.loop-at.mosts c.loop-at.i (record { sfits = told.1.1.1.0.1 }) (record { sfits = told.1.1.1.1.0.1 })
+    (writing_more c.loop-at.invariant c.loop-at-test.true c.rule_row-found.ensures)
 
 pub shape_of-sources : goal.shape_of-sources
 shape_of-sources c = sources_length c.loop-at.invariant
