@@ -3,17 +3,18 @@
 --     rules_kept         the limits that the rules of a graph keep whose events are known
 --     sized_up           a graph whose delays lie within 1,000,000 may be analysed
 --     sized_right        a graph whose counts are kept and whose rules are right, and back: right_sized
---     lowest_not_reached, all_reached    what the search for an unreached event tells of the graph, by whether it stopped before the end
+--     lowest_not_reached    what the search for an unreached event finds
 --     ends_wider         keys below n are below any larger number
---     lowest_on          where there is a cycle, the search finds the lowest event on one
+--     some_on, lowest_on    where there is a cycle, some event lies on one, and what the search finds is the lowest
 --     path_5, path_6, path_0    refusals 5 and 6, and that neither applies
 --     path_refused       refusal 5 or 6 is what the passes answer
 --     path_computed      and so is what they computed
 -- Assumes nothing.
-use mathlib.Core.Path.{◌≡◌, refl, sym, subst₂}
+use Rattle.std.proofs.Common.{Ok, Err, Option, Some, None}
+use Rattle.std.specs.Option.{IsSome}
+use mathlib.Core.Path.{refl}
 use mathlib.Core.List.{List, []}
 use Prim.Native.Nat.{ℕ, ◌<◌, ◌≤◌}
-use native.Mathlib.Decide.{dec_lt}
 use native.Mathlib.Omega.{arith}
 use lib.IntN.{ℤ}
 use lib.ListN.{replicate, length-replicate, get_or-replicate}
@@ -21,12 +22,14 @@ use Rattle.integers.proofs.Word.{within_wider}
 use Rattle.graphs.specs.Graph.{Graph, graph_of, rules}
 use Rattle.graphs.specs.Path.{OnCycle, HasCycle, Reachable}
 use Rattle.graphs.specs.Refusal.{Unreached, path_checks}
-use Rattle.verdicts.specs.Verdict.{given, passed, FirstOf, Lowest, LowestOr}
+use Rattle.verdicts.specs.Verdict.{given, passed, FirstOf, Lowest, FoundAt, LowestIn}
 use Rattle.verdicts.proofs.Verdicts.{none_accepted}
-use Rattle.verdicts.proofs.Searches.{lowest_bad, all_good}
+use Rattle.verdicts.proofs.Searches.{found_lowest}
 use Rattle.graphs.proofs.Refusals.{cycle_misses, path_none}
 use Rattle.graphs.specs.Limits.{CountsKept, Sized}
-use Rattle.analysis.specs.declared.Analysis.{Analysis}
+use Rattle.refusals.specs.Numbers.{number_of, place_of}
+use Rattle.refusals.specs.declared.Refusal.{Refusal}
+use Rattle.analysis.specs.declared.Depths.{Depths}
 use Rattle.analysis.specs.Parts.Rules.{RuleRight, EndsBelow, RulesKept, Zeros}
 use Rattle.graphs.proofs.Cycle.{leaves_below}
 use Rattle.analysis.specs.Parts.Cycles.{LiesOn, LiesOff}
@@ -81,24 +84,16 @@ right_sized sized i l =
 -- ---- refusals 5 and 6
 
 -- where there is a cycle, the search finds the lowest event on one: an event on a cycle is one of the n
-pub lowest_on : {n : ℕ} {ss ts : List ℕ} {r : ℕ} → EndsBelow n ss → ((ds Ds : List ℤ) → HasCycle (graph_of n ss ts ds Ds)) → LowestOr n (LiesOff ss ts) (LiesOn ss ts) r →
-    (r < n) × ((ds Ds : List ℤ) → Lowest (OnCycle (graph_of n ss ts ds Ds)) r)
-lowest_on {n} {ss} {ts} {r} below cyclic found =
-    let l : r < n = stops (dec_lt r n) in
-    (l, λ ds Ds. lowest_bad (OnCycle (graph_of n ss ts ds Ds)) (λ i _ off. off n ds Ds) (λ i _ on. on n ds Ds) found l)
-  where
-    stops : Dec (r < n) → r < n
-    stops (yes l) = l
-    stops (no l) =
-        let (v, (p, some)) = cyclic [] [] in
-        absurd (all_good found (omega arith) v (leaves_below below.below p some) n [] [] (p, some))
+pub some_on : {n : ℕ} {ss ts : List ℕ} → EndsBelow n ss → ((ds Ds : List ℤ) → HasCycle (graph_of n ss ts ds Ds)) → (x : Option ℕ) → LowestIn n (LiesOff ss ts) (LiesOn ss ts) x → IsSome x
+some_on below cyclic (Some v) found = refl
+some_on {n} below cyclic None off = let (v, (p, some)) = cyclic [] [] in absurd (off v (leaves_below below.below p some) n [] [] (p, some))
+
+pub lowest_on : {n v : ℕ} {ss ts : List ℕ} → FoundAt n (LiesOff ss ts) (LiesOn ss ts) v → (ds Ds : List ℤ) → Lowest (OnCycle (graph_of n ss ts ds Ds)) v
+lowest_on {n} {ss = ss} {ts = ts} found ds Ds = found_lowest (OnCycle (graph_of n ss ts ds Ds)) (λ i _ off. off n ds Ds) (λ i _ on. on n ds Ds) found
 
 module _ {g : Graph} where
-  pub lowest_not_reached : {r : ℕ} → LowestOr g.events (Reachable g) (λ v. Reachable g v → ⊥) r → r < g.events → Lowest (Unreached g) r
-  lowest_not_reached = lowest_bad (Unreached g) (λ v l p u. u.no_path p) (λ v l none. record { is_event = l; no_path = none })
-
-  pub all_reached : {r : ℕ} → LowestOr g.events (Reachable g) (λ v. Reachable g v → ⊥) r → g.events ≤ r → (v : ℕ) → v < g.events → Reachable g v
-  all_reached h l v m = all_good h l v m
+  pub lowest_not_reached : {v : ℕ} → FoundAt g.events (Reachable g) (λ v. Reachable g v → ⊥) v → Lowest (Unreached g) v
+  lowest_not_reached = found_lowest (Unreached g) (λ v l p u. u.no_path p) (λ v l none. record { is_event = l; no_path = none })
 
   pub path_5 : {p : ℕ} → Lowest (OnCycle g) p → FirstOf (path_checks g) 5 p
   path_5 h = given h
@@ -109,26 +104,9 @@ module _ {g : Graph} where
   pub path_0 : (HasCycle g → ⊥) → ((v : ℕ) → v < g.events → Reachable g v) → FirstOf (path_checks g) 0 0
   path_0 acyclic reachable = none_accepted (path_checks g) (path_none acyclic reachable)
 
-abbrev pub Refused : ℕ → ℕ → Analysis → Type 0
-Refused k p a = (a.refusal ≡ k) × (a.place ≡ p) × (a.source_depth ≡ 0) × (a.target_depth ≡ 0)
+module _ {g : Graph} {s t : ℕ} where
+  pub path_refused : {us : List ℤ} {r : Refusal} → FirstOf (path_checks g) (number_of r) (place_of r) → PathsAnalysed g s t us us (Err r)
+  path_refused v = record { verdict = v; outcome = refl }
 
-module _ {g : Graph} {s t : ℕ} {a : Analysis} where
-  pub path_refused : {us : List ℤ} (k p : ℕ) → 0 < k → Refused k p a → FirstOf (path_checks g) k p → PathsAnalysed g s t us us a
-  path_refused k p positive r v =
-      record {
-        verdict = subst₂ (FirstOf (path_checks g)) (sym r.0) (sym r.1) v;
-        computed = λ e. absurd (let none : ⊥ = omega (arith, r.0) in none);
-        no_source_depth = λ _. r.2;
-        no_target_depth = λ _. r.3;
-        kept = λ _. refl;
-      }
-
-  pub path_computed : {us₀ us : List ℤ} → a.refusal ≡ 0 → a.place ≡ 0 → Computed g s t us₀ us a → PathsAnalysed g s t us₀ us a
-  path_computed e f c =
-      record {
-        verdict = subst₂ (FirstOf (path_checks g)) (sym e) (sym f) (path_0 c.acyclic c.reachable);
-        computed = λ _. c;
-        no_source_depth = λ n. absurd (n e);
-        no_target_depth = λ n. absurd (n e);
-        kept = λ n. absurd (n e);
-      }
+  pub path_computed : {us₀ us : List ℤ} {d : Depths} → Computed g s t us₀ us d → PathsAnalysed g s t us₀ us (Ok d)
+  path_computed c = record { verdict = path_0 c.acyclic c.reachable; outcome = c }

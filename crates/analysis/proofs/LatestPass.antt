@@ -10,7 +10,7 @@
 use mathlib.Core.Path.{◌≡◌, refl, sym, ap, subst, ◌∙◌}
 use mathlib.Core.Logic.{⊎_elim}
 use mathlib.Core.List.{List}
-use Prim.Native.Nat.{ℕ, suc, ◌+◌, ◌-◌, ◌*◌, ◌<◌, ◌≤◌, zero-le}
+use Prim.Native.Nat.{ℕ, suc, ◌+◌, ◌-◌, ◌*◌, ◌<◌, ◌≤◌}
 use native.Mathlib.Omega.{arith}
 use lib.IntN.{ℤ, pos, ◌+ℤ◌}
 use lib.Signed.{◌≤ℤ◌}
@@ -308,9 +308,9 @@ module _ (n : ℕ) (ss ts : List ℕ) (ds Ds : List ℤ) (heads nexts order : Li
 
   -- ---- its end
 
-  module _ (us : List ℤ) (depth : List ℕ) (p : Pulled 0 us depth) where
+  module _ (k : ℕ) (none : k ≤ 0) (us : List ℤ) (depth : List ℕ) (p : Pulled k us depth) where
     done : (w : ℕ) → w < n → Turned g s rank (at us) (λ x. get_or depth x 0) w
-    done w l = p.turned w l zero-le
+    done w l = p.turned w l (omega arith)
 
     pub pulled_latest : LatestFound g s us₀ us
     pulled_latest =

@@ -14,3 +14,4 @@ pub mod PushLaws
 pub mod ServeLaws
 pub mod OrderEventsLaws
 pub mod TakeRulesLaws
+pub mod Extremes

@@ -3,8 +3,7 @@
 --     listing_room     where some event is not marked, there is room for it
 --     listing_more     marked and listed at the end, it is one more
 --     Marking … e …    the walk through the rules into the event stands at e, and the sources of those passed are marked
---     Passing … i …    how the marks and the list change as the walk passes rule i: the two ways of the code
---     marking_start, marking_step, marking_end     its start, a step, and what holds at its end
+--     marking_start, marking_known, marking_new, marking_end    its start, a step to a source that is marked or to a new one, and what holds at its end
 -- Assumes nothing.
 use mathlib.Core.Path.{◌≡◌, refl, sym, subst, ◌∙◌}
 use mathlib.Core.Bool.{Bool, true, false, true≢false}
@@ -114,12 +113,6 @@ pub record Marking (ss ts : List ℕ) (event : ℕ) (seen₀ : List Bool) (list�
   pub seen_length : length seen ≡ length seen₀
   pub list_length : length list ≡ length list₀
 
-pub data Passing (ss : List ℕ) (i : ℕ) (seen : List Bool) (list : List ℕ) (end : ℕ) (seen' : List Bool) (list' : List ℕ) (end' : ℕ) : Type 0 where
-  known : get_or seen (get_or ss i 0) false ≡ true → seen' ≡ seen → list' ≡ list → end' ≡ end → Passing ss i seen list end seen' list' end'
-  new :
-      get_or seen (get_or ss i 0) false ≡ false → seen' ≡ set seen (get_or ss i 0) true → list' ≡ set list end (get_or ss i 0) → end' ≡ end + 1 →
-      Passing ss i seen list end seen' list' end'
-
 module _ (ss ts heads nexts : List ℕ) (chained : Chained ts heads nexts) (event : ℕ) (seen₀ : List Bool) (list₀ : List ℕ) (end₀ : ℕ) where
   pub marking_start : event < length heads → Listing seen₀ list₀ end₀ → Marking ss ts event seen₀ list₀ end₀ (get_or heads event 0) seen₀ list₀ end₀
   marking_start l listing =
@@ -134,8 +127,11 @@ module _ (ss ts heads nexts : List ℕ) (chained : Chained ts heads nexts) (even
         list_length = refl;
       }
 
-  module _ (i : ℕ) (seen : List Bool) (list : List ℕ) (end : ℕ) (m : Marking ss ts event seen₀ list₀ end₀ (suc i) seen list end) where
-    marking_known : get_or seen (get_or ss i 0) false ≡ true → Marking ss ts event seen₀ list₀ end₀ (get_or nexts i 0) seen list end
+  module _ (e i : ℕ) (some : e ≡ suc i) (seen : List Bool) (list : List ℕ) (end : ℕ) (at : Marking ss ts event seen₀ list₀ end₀ e seen list end) where
+    m : Marking ss ts event seen₀ list₀ end₀ (suc i) seen list end
+    m = subst (λ (x : ℕ). Marking ss ts event seen₀ list₀ end₀ x seen list end) some at
+
+    pub marking_known : get_or seen (get_or ss i 0) false ≡ true → Marking ss ts event seen₀ list₀ end₀ (get_or nexts i 0) seen list end
     marking_known s =
         record {
           walk = walk_step ts heads nexts chained event (λ (j : ℕ). get_or seen (get_or ss j 0) false ≡ true) i m.walk s;
@@ -149,7 +145,7 @@ module _ (ss ts heads nexts : List ℕ) (chained : Chained ts heads nexts) (even
         }
 
     module _ (known : get_or ss i 0 < length seen) (long : length seen ≤ length list) (unseen : get_or seen (get_or ss i 0) false ≡ false) where
-      marking_new : Marking ss ts event seen₀ list₀ end₀ (get_or nexts i 0) (set seen (get_or ss i 0) true) (set list end (get_or ss i 0)) (end + 1)
+      pub marking_new : Marking ss ts event seen₀ list₀ end₀ (get_or nexts i 0) (set seen (get_or ss i 0) true) (set list end (get_or ss i 0)) (end + 1)
       marking_new =
           let u : ℕ = get_or ss i 0 in
           record {
@@ -166,26 +162,6 @@ module _ (ss ts heads nexts : List ℕ) (chained : Chained ts heads nexts) (even
             seen_length = length-set seen u true ∙ m.seen_length;
             list_length = length-set list end u ∙ m.list_length;
           }
-
-  same : {e : ℕ} {seen seen' : List Bool} {list list' : List ℕ} {end end' : ℕ} → seen' ≡ seen → list' ≡ list → end' ≡ end →
-      Marking ss ts event seen₀ list₀ end₀ e seen list end → Marking ss ts event seen₀ list₀ end₀ e seen' list' end'
-  same {e} {seen} {seen'} {list} {list'} {end} {end'} a b c m =
-      subst (λ (x : ℕ). Marking ss ts event seen₀ list₀ end₀ e seen' list' x) (sym c)
-      (subst (λ (x : List ℕ). Marking ss ts event seen₀ list₀ end₀ e seen' x end) (sym b)
-      (subst (λ (x : List Bool). Marking ss ts event seen₀ list₀ end₀ e x list end) (sym a) m))
-
-  pub marking_step : (e i : ℕ) → e ≡ suc i → (seen : List Bool) (list : List ℕ) (end : ℕ) → Marking ss ts event seen₀ list₀ end₀ e seen list end →
-      get_or ss i 0 < length seen → length seen ≤ length list →
-      (seen' : List Bool) (list' : List ℕ) (end' : ℕ) → Passing ss i seen list end seen' list' end' →
-      Marking ss ts event seen₀ list₀ end₀ (get_or nexts i 0) seen' list' end'
-  marking_step e i some seen list end m below long seen' list' end' p = by p
-    where
-      here : Marking ss ts event seen₀ list₀ end₀ (suc i) seen list end
-      here = subst (λ (x : ℕ). Marking ss ts event seen₀ list₀ end₀ x seen list end) some m
-
-      by : Passing ss i seen list end seen' list' end' → Marking ss ts event seen₀ list₀ end₀ (get_or nexts i 0) seen' list' end'
-      by (known s a b c) = same a b c (marking_known i seen list end here s)
-      by (new s a b c) = same a b c (marking_new i seen list end here below long s)
 
 pub marking_end : (ss ts : List ℕ) (event : ℕ) (seen₀ : List Bool) (list₀ : List ℕ) (end₀ e : ℕ) (seen : List Bool) (list : List ℕ) (end : ℕ) →
     e ≡ 0 → Marking ss ts event seen₀ list₀ end₀ e seen list end → Marked ss ts event seen₀ list₀ end₀ seen list end

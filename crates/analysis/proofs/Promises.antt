@@ -1,15 +1,14 @@
 -- The promise of the analysis, put together from what its parts promise, and that it fixes the result: two results allowed for one input are equal.
 --     analysed_refused    a refusal leaves the list as it was
 --     analysed_counts, analysed_short, analysed_input    so does refusal 21 or 22, 23, and one of those that speak of what is handed in
---     analysed_input_refused   where the question isn't kept, what `check_input` finds is the answer
+--     not_kept            where the question isn't kept, `check_input` finds a refusal
 --     analysed_paths      where the question is kept, what the passes answer is the answer
 --     analyse_unique      two results of `analyse` are equal, the list included
 -- Assumes nothing.
-use mathlib.Core.Path.{◌≡◌, refl, sym, subst₂, ◌∙◌}
+use Rattle.std.proofs.Common.{Result, Ok, Err, ap}
+use mathlib.Core.Path.{◌≡◌, refl, sym, ◌∙◌}
 use mathlib.Core.List.{List}
 use Prim.Native.Nat.{ℕ, ◌<◌}
-use native.Mathlib.Decide.{ℕ_discrete}
-use native.Mathlib.Omega.{arith}
 use lib.IntN.{ℤ, pos}
 use Rattle.graphs.proofs.Limits.{sound_of}
 use lib.ListN.{length}
@@ -25,91 +24,79 @@ use Rattle.executions.proofs.Unique.{u_unique}
 use Rattle.refusals.specs.Question.{delay_limit}
 use Rattle.refusals.proofs.Question.{QuestionKept, kept_none, question_kept}
 use Rattle.refusals.proofs.Counts.{counts_given}
-use Rattle.analysis.specs.declared.Analysis.{Analysis}
-use Rattle.analysis.specs.Promise.{AnalysisVerdict, Analysed}
-use Rattle.analysis.specs.Parts.Arranged.{PathsAnalysed, InputRefused}
-use Rattle.analysis.proofs.Arranging.{Refused}
+use Rattle.refusals.specs.Numbers.{number_of, place_of, number_in, place_in}
+use Rattle.refusals.specs.declared.Refusal.{Refusal}
+use Rattle.refusals.specs.declared.Refusal.TheVariants.{ShortList}
+use Rattle.refusals.proofs.Unique.{same_refusal, some_number}
+use Rattle.analysis.specs.declared.Depths.{Depths}
+use Rattle.analysis.specs.Promise.{AnalysisVerdict, AnalysisOutcome, Analysed}
+use Rattle.analysis.specs.Parts.Arranged.{PathsAnalysed, PathsOutcome, InputKept}
 
 -- ---- the answer
 
-module _ {limit : ℕ} {g : Graph} {s t : ℕ} {us : List ℤ} {a : Analysis} where
-  pub analysed_refused : (k p : ℕ) → (k ≡ 0 → ⊥) → Refused k p a → AnalysisVerdict limit g s t (length us < g.events) k p → Analysed limit g s t us us a
-  analysed_refused k p some r v =
-      record {
-        verdict = subst₂ (AnalysisVerdict limit g s t (length us < g.events)) (sym r.0) (sym r.1) v;
-        found = λ e. absurd (some (sym r.0 ∙ e));
-        no_source_depth = λ _. r.2;
-        no_target_depth = λ _. r.3;
-        kept = λ _. refl;
-        same_length = refl;
-      }
+module _ {limit : ℕ} {g : Graph} {s t : ℕ} {us : List ℤ} {r : Refusal} where
+  pub analysed_refused : AnalysisVerdict limit g s t (length us < g.events) (number_of r) (place_of r) → Analysed limit g s t us us (Err r)
+  analysed_refused v = record { verdict = v; outcome = refl; same_length = refl }
 
-  pub analysed_counts : (k : ℕ) → (k ≡ 0 → ⊥) → Refused k 0 a → FirstOf (count_checks 1024 4096 g) k 0 → Analysed limit g s t us us a
-  analysed_counts k some r v = analysed_refused k 0 some r (counts_given _ some v)
+  pub analysed_counts : FirstOf (count_checks 1024 4096 g) (number_of r) (place_of r) → Analysed limit g s t us us (Err r)
+  analysed_counts v = analysed_refused (counts_given _ (some_number r) v)
 
-  pub analysed_short : Refused 23 0 a → CountsKept g → length us < g.events → Analysed limit g s t us us a
-  analysed_short r counts l =
-      analysed_refused 23 0 (λ e. let none : ⊥ = omega arith in none) r (passed (events_miss counts) (passed (rules_miss counts) (given (at_zero l))))
+  -- where the question isn't kept, the refusal that `check_input` finds is the answer
+  pub analysed_input : (length us < g.events → ⊥) → FirstOf (question_checks_to (delay_limit limit) g s t ⊥) (number_of r) (place_of r) → Analysed limit g s t us us (Err r)
+  analysed_input room v =
+      analysed_refused
+      (then_alike (short_alike (λ none. absurd none) room) (FirstOf (path_checks g)) (number_of r) (place_of r)
+      (front_given (question_checks_to (delay_limit limit) g s t ⊥) (FirstOf (path_checks g)) (number_of r) (place_of r) (some_number r) v))
 
-  pub analysed_input : (length us < g.events → ⊥) → (k p : ℕ) → (k ≡ 0 → ⊥) → Refused k p a → FirstOf (question_checks_to (delay_limit limit) g s t ⊥) k p → Analysed limit g s t us us a
-  analysed_input room k p some r v =
-      analysed_refused k p some r
-      (then_alike (short_alike (λ none. absurd none) room) (FirstOf (path_checks g)) k p
-      (front_given (question_checks_to (delay_limit limit) g s t ⊥) (FirstOf (path_checks g)) k p some v))
+pub analysed_short : {limit : ℕ} {g : Graph} {s t : ℕ} {us : List ℤ} → CountsKept g → length us < g.events → Analysed limit g s t us us (Err ShortList)
+analysed_short counts l = analysed_refused (passed (events_miss counts) (passed (rules_miss counts) (given (at_zero l))))
 
--- where the question isn't kept, the refusal that `check_input` finds is the answer
-pub analysed_input_refused :
-    {limit : ℕ} {g : Graph} {s t : ℕ} {us : List ℤ} {a : Analysis} → (length us < g.events → ⊥) → (QuestionKept (delay_limit limit) g s t → ⊥) →
-    InputRefused limit g s t a → Analysed limit g s t us us a
-analysed_input_refused {a = a} room never r =
-    analysed_input room a.refusal a.place (λ e. never (question_kept Accepted e r.verdict).0) (refl, refl, r.no_source_depth, r.no_target_depth) r.verdict
+-- a question of which an end is unknown, or a rule is wrong, is not kept
+pub not_kept : (limit : ℕ) (g : Graph) (s t : ℕ) → (QuestionKept (delay_limit limit) g s t → ⊥) → InputKept limit g s t → ⊥
+not_kept limit g s t never v = never (question_kept Accepted refl v).0
 
-pub analysed_paths : {limit : ℕ} {g : Graph} {s t : ℕ} {us₀ us : List ℤ} {a : Analysis} → (length us₀ < g.events → ⊥) → QuestionKept (delay_limit limit) g s t → length us ≡ length us₀ → PathsAnalysed g s t us₀ us a → Analysed limit g s t us₀ us a
-analysed_paths {limit} {g} {s} {t} {us₀} {us} {a} room kept same x =
+pub analysed_paths : {limit : ℕ} {g : Graph} {s t : ℕ} {us₀ us : List ℤ} (x : Result Depths Refusal) → (length us₀ < g.events → ⊥) → QuestionKept (delay_limit limit) g s t → length us ≡ length us₀ → PathsAnalysed g s t us₀ us x → Analysed limit g s t us₀ us x
+analysed_paths {limit} {g} {s} {t} {us₀} {us} x room kept same p =
     record {
-      verdict = passed_all (question_checks_to (delay_limit limit) g s t (length us₀ < g.events)) (FirstOf (path_checks g)) a.refusal a.place (kept_none room kept) x.verdict;
-      found = λ e.
-          let c = x.computed e in
-          record {
-            graph = record { sized = kept.sized; acyclic = c.acyclic; reachable = c.reachable };
-            source_known = kept.source_known;
-            target_known = kept.target_known;
-            steps = c.latest.steps;
-            within = c.latest.within;
-            beyond = c.latest.beyond;
-            depth_of_source = c.depth_of_source;
-            depth_of_target = c.depth_of_target;
-          };
-      no_source_depth = x.no_source_depth;
-      no_target_depth = x.no_target_depth;
-      kept = x.kept;
+      verdict = passed_all (question_checks_to (delay_limit limit) g s t (length us₀ < g.events)) (FirstOf (path_checks g)) (number_in x) (place_in x) (kept_none room kept) p.verdict;
+      outcome = outcome x p.outcome;
       same_length = same;
     }
+  where
+    outcome : (x : Result Depths Refusal) → PathsOutcome g s t us₀ us x → AnalysisOutcome (delay_limit limit) g s t us₀ us x
+    outcome (Ok d) c =
+        record {
+          graph = record { sized = kept.sized; acyclic = c.acyclic; reachable = c.reachable };
+          source_known = kept.source_known;
+          target_known = kept.target_known;
+          steps = c.latest.steps;
+          within = c.latest.within;
+          beyond = c.latest.beyond;
+          depth_of_source = c.depth_of_source;
+          depth_of_target = c.depth_of_target;
+        }
+    outcome (Err r) same = same
 
 -- ---- one answer
 
--- an answer is its four numbers
-same_analysis : {a b : Analysis} → (a.refusal ≡ b.refusal) × (a.place ≡ b.place) → a.source_depth ≡ b.source_depth → a.target_depth ≡ b.target_depth → a ≡ b
-same_analysis e f h = λ i. record { refusal = e.0 i; place = e.1 i; source_depth = f i; target_depth = h i }
-
-module _ {limit : ℕ} {g : Graph} {s t : ℕ} {us₀ us us' : List ℤ} {a b : Analysis} (x : Analysed limit g s t us₀ us a) (y : Analysed limit g s t us₀ us' b) where
-  pub analyse_unique : (a ≡ b) × (us ≡ us')
-  analyse_unique = go (ℕ_discrete a.refusal 0)
+module _ {limit : ℕ} {g : Graph} {s t : ℕ} {us₀ us us' : List ℤ} where
+  pub analyse_unique : (x y : Result Depths Refusal) → Analysed limit g s t us₀ us x → Analysed limit g s t us₀ us' y → (x ≡ y) × (us ≡ us')
+  analyse_unique x y a b = go x y same a.outcome b.outcome
     where
-      same : (a.refusal ≡ b.refusal) × (a.place ≡ b.place)
+      same : (number_in x ≡ number_in y) × (place_in x ≡ place_in y)
       same =
           then_unique (question_checks_to (delay_limit limit) g s t (length us₀ < g.events)) (question_places g s t (length us₀ < g.events)) (one_verdict (path_checks g) (path_places g))
-          _ _ _ _ x.verdict y.verdict
+          _ _ _ _ a.verdict b.verdict
 
-      go : Dec (a.refusal ≡ 0) → (a ≡ b) × (us ≡ us')
-      go (yes e) =
-          let h = x.found e in
-          let k = y.found (sym same.0 ∙ e) in (
-            same_analysis same (depth_unique h.depth_of_source k.depth_of_source) (depth_unique h.depth_of_target k.depth_of_target),
-            same_places g.events us us' (pos 0) (x.same_length ∙ sym y.same_length) (u_unique (sound_of h.graph) h.source_known h.steps k.steps) (h.beyond ∙ sym k.beyond),
-          )
-      go (no n) =
-          let m : b.refusal ≡ 0 → ⊥ = λ e. n (same.0 ∙ e) in (
-            same_analysis same (x.no_source_depth n ∙ sym (y.no_source_depth m)) (x.no_target_depth n ∙ sym (y.no_target_depth m)),
-            x.kept n ∙ sym (y.kept m),
-          )
+      go : (x y : Result Depths Refusal) →
+          (number_in x ≡ number_in y) × (place_in x ≡ place_in y) →
+          AnalysisOutcome (delay_limit limit) g s t us₀ us x →
+          AnalysisOutcome (delay_limit limit) g s t us₀ us' y →
+          (x ≡ y) × (us ≡ us')
+      go (Ok d) (Ok e) same h k = (
+        ap Ok (λ i. record { source = depth_unique h.depth_of_source k.depth_of_source i; target = depth_unique h.depth_of_target k.depth_of_target i }),
+        same_places g.events us us' (pos 0) (a.same_length ∙ sym b.same_length) (u_unique (sound_of h.graph) h.source_known h.steps k.steps) (h.beyond ∙ sym k.beyond),
+      )
+      go (Ok d) (Err r) same h k = absurd (some_number r (sym same.0))
+      go (Err q) (Ok e) same h k = absurd (some_number q same.0)
+      go (Err q) (Err r) same h k = (ap Err (same_refusal q r same.0 same.1), h ∙ sym k)

@@ -1,13 +1,13 @@
 -- The walk of `push` through the rules into event v, whose m is y.
---     Pushing … y … e     == the walk stands at e: rule e − 1 is next, and the rules into v from e on have been pushed along
+--     Pushing … y … e     == the walk stands at e: if it is 1 + i, rule i is next; and the rules into v from e on have been pushed along
 --     pushing_begins      at heads[v] none has been
---     RuleHere, rule_here   what is known of rule e − 1: so the code may look it up, and its difference fits
---     pushing_rule        rule e − 1 is pushed along: its source takes the lesser
+--     RuleHere, rule_here   what is known of rule i: so the code may look it up, and its difference fits
+--     pushing_rule        rule i is pushed along: its source takes the lesser
 --     pushing_ends        at 0 all have been
 -- Assumes nothing.
 use mathlib.Core.Path.{◌≡◌, subst}
 use mathlib.Core.List.{List}
-use Prim.Native.Nat.{ℕ, suc, ◌-◌, ◌<◌, ◌≤◌}
+use Prim.Native.Nat.{ℕ, suc, ◌<◌, ◌≤◌}
 use native.Mathlib.Omega.{arith}
 use lib.IntN.{ℤ, pos, ◌-ℤ◌}
 use lib.ListN.{length, get_or, set, length-set}
@@ -25,16 +25,14 @@ pub record Pushing (n : ℕ) (ss ts : List ℕ) (ds Ds : List ℤ) (s : ℕ) (ra
   pub within : e ≤ length ts
   pub own : (i : ℕ) → e ≡ suc i → get_or ts i 0 ≡ v
 
-pub record RuleHere (ss : List ℕ) (ds : List ℤ) (nexts : List ℕ) (m : List ℤ) (y : ℤ) (e : ℕ) : Type 0 where
+pub record RuleHere (ss : List ℕ) (ds : List ℤ) (m : List ℤ) (y : ℤ) (i : ℕ) : Type 0 where
   pub few_rules : length ss ≤ 4096
-  pub in_sources : e - 1 < length ss
-  pub in_leasts : e - 1 < length ds
-  pub in_nexts : e - 1 < length nexts
-  pub in_m : get_or ss (e - 1) 0 < length m
-  pub small : get_or ss (e - 1) 0 < 1024
+  pub in_sources : i < length ss
+  pub in_leasts : i < length ds
+  pub in_m : get_or ss i 0 < length m
+  pub small : get_or ss i 0 < 1024
   pub y_within : Within 1025024000 y
-  pub least_within : Within 1001000 (get_or ds (e - 1) (pos 0))
-  pub next_less : get_or nexts (e - 1) 0 < e
+  pub least_within : Within 1001000 (get_or ds i (pos 0))
 
 module _ (n : ℕ) (ss ts : List ℕ) (ds Ds : List ℤ) (heads nexts order : List ℕ) (s k v : ℕ) (m₀ m₁ : List ℤ) (r : PushReady n ss ts ds Ds heads nexts order s k v m₀ m₁) where
   abbrev rank : ℕ → ℕ
@@ -52,54 +50,49 @@ module _ (n : ℕ) (ss ts : List ℕ) (ds Ds : List ℤ) (heads nexts order : Li
       let l : v < n = v_known n ss ts ds Ds heads nexts order s r.ready.arranged r.ready.sized k v r.place r.here in
       (omega (arith, r.ready.room), omega (arith, r.ready.arranged.chains.heads_room), omega (arith, r.ready.arranged.kept.few_events))
 
-  pub pushing_begins : (y : ℤ) → y ≡ get_or m₁ v (pos 0) → Pushing n ss ts ds Ds s rank k v y m₀ m₁ (get_or heads v 0)
-  pushing_begins y e =
+  pub pushing_begins : Pushing n ss ts ds Ds s rank k v (get_or m₁ v (pos 0)) m₀ m₁ (get_or heads v 0)
+  pushing_begins =
       let last : Last ts v (length ts) (get_or heads v 0) = r.ready.arranged.chains.chained.heads_last v event_known.1 in
       record {
         pass = pass_walk n ss ts ds Ds heads nexts order s r.ready.arranged r.ready.sized k v r.place r.here m₀ m₁ r.pass;
-        its_m = rw e has_m;
+        its_m = has_m;
         room = r.ready.room;
         within = last.within;
         own = last.hit;
       }
 
   module _ (y : ℤ) (m : List ℤ) (e : ℕ) (p : Pushing n ss ts ds Ds s rank k v y m₀ m e) where
-    module _ (some : 0 < e) where
-      next : e ≡ suc (e - 1)
-      next = omega arith
-
-      is_rule : e - 1 < length ss
+    module _ (i : ℕ) (next : e ≡ suc i) where
+      is_rule : i < length ss
       is_rule = omega (arith, p.within, r.ready.arranged.kept.targets_match)
 
-      last : Last ts v (e - 1) (get_or nexts (e - 1) 0)
+      last : Last ts v i (get_or nexts i 0)
       last =
-          subst (λ (x : ℕ). Last ts x (e - 1) (get_or nexts (e - 1) 0)) (p.own (e - 1) next)
-          (r.ready.arranged.chains.chained.nexts_last (e - 1) (omega (arith, p.within)))
+          subst (λ (x : ℕ). Last ts x i (get_or nexts i 0)) (p.own i next)
+          (r.ready.arranged.chains.chained.nexts_last i (omega (arith, p.within)))
 
-      pub rule_here : RuleHere ss ds nexts m y e
+      pub rule_here : RuleHere ss ds m y i
       rule_here =
-          let u : get_or ss (e - 1) 0 < n = (r.ready.sized.ends (e - 1) is_rule).source_known in
+          let u : get_or ss i 0 < n = (r.ready.sized.ends i is_rule).source_known in
           let counts = r.ready.sized.counts in
           record {
             few_rules = counts.few_rules;
             in_sources = is_rule;
             in_leasts = omega (arith, counts.leasts_match, is_rule);
-            in_nexts = omega (arith, p.within, r.ready.arranged.chains.nexts_room);
             in_m = omega (arith, p.room);
             small = omega (arith, counts.few_events);
             y_within = m_within r.ready.sized r.ready.arranged.ordered p.its_m;
-            least_within = (r.ready.sized.delays (e - 1) is_rule).least_within;
-            next_less = omega (arith, last.within);
+            least_within = (r.ready.sized.delays i is_rule).least_within;
           }
 
       pub pushing_rule :
-          (a x z z' : ℤ) → a ≡ get_or m (get_or ss (e - 1) 0) (pos 0) → x ≡ y -ℤ get_or ds (e - 1) (pos 0) → z' ≡ z → Lesser a x z →
-          Pushing n ss ts ds Ds s rank k v y m₀ (set m (get_or ss (e - 1) 0) z') (get_or nexts (e - 1) 0)
+          (a x z z' : ℤ) → a ≡ get_or m (get_or ss i 0) (pos 0) → x ≡ y -ℤ get_or ds i (pos 0) → z' ≡ z → Lesser a x z →
+          Pushing n ss ts ds Ds s rank k v y m₀ (set m (get_or ss i 0) z') (get_or nexts i 0)
       pushing_rule a x z z' was is kept lesser =
           record {
             pass =
-                pass_rule n ss ts ds Ds heads nexts order s r.ready.arranged r.ready.sized k v r.place r.here m₀ m (e - 1) y z' is_rule
-                (p.own (e - 1) next) p.its_m (rw kept (rw (was, is) at lesser)) p.room
+                pass_rule n ss ts ds Ds heads nexts order s r.ready.arranged r.ready.sized k v r.place r.here m₀ m i y z' is_rule
+                (p.own i next) p.its_m (rw kept (rw (was, is) at lesser)) p.room
                 (subst (λ (j : ℕ). MPass (graph_of n ss ts ds Ds) s rank k j m₀ m) next p.pass);
             its_m = p.its_m;
             room = rw length-set p.room;

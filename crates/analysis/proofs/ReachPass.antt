@@ -13,7 +13,8 @@ use native.Mathlib.Omega.{arith}
 use lib.IntN.{ℤ}
 use lib.ListN.{length, get_or, set, length-set}
 use lib.Seq.{get_or-set_same, get_or-set_other}
-use Rattle.verdicts.specs.Verdict.{LowestOr}
+use Rattle.std.proofs.Common.{Option, Some, None}
+use Rattle.verdicts.specs.Verdict.{LowestIn}
 use Rattle.graphs.specs.Graph.{Graph, graph_of}
 use Rattle.graphs.specs.Path.{Path, stay, Reachable}
 use Rattle.graphs.proofs.Paths.{along, LastRule, no_last, last, last_rule}
@@ -47,9 +48,6 @@ module _ (n : ℕ) (ss ts heads nexts order : List ℕ) (a : Arranged n ss ts he
 
     pub led_reachable : Led n heads → (v : ℕ) → v < n → Reachable g v
     led_reachable led v l = reach led n v l (omega arith)
-
-    pub led_lowest : Led n heads → LowestOr n (Reachable g) (λ v. Reachable g v → ⊥) n
-    led_lowest led = record { within = omega arith; before = λ i l. led_reachable led i l; bad = λ l. absurd (let none : ⊥ = omega arith in none) }
 
   -- ---- the marks
 
@@ -116,15 +114,12 @@ module _ (n : ℕ) (ss ts heads nexts order : List ℕ) (a : Arranged n ss ts he
             by p (no_last same few zero-sum) = other (sym same)
             by p (last i l into q one_more its-sum) = (source_marked ds Ds i l into).no_path (never.none refl i (omega (arith, a.kept.targets_match)) into) q
 
-  pub marks_end : (marks : List ℕ) → MarksFrom marks 0 → AllMarked n ss ts marks
-  marks_end marks m ds Ds = back_all n ss ts order a.rank a.ordered (Marked (graph_of n ss ts ds Ds) marks) (m.each ds Ds)
+  pub marks_end : (marks : List ℕ) (k : ℕ) → k ≤ 0 → MarksFrom marks k → AllMarked n ss ts marks
+  marks_end marks k none m ds Ds = back_all n ss ts order a.rank a.ordered (Marked (graph_of n ss ts ds Ds) marks) (λ w l h. m.each ds Ds w l (omega arith))
 
+-- what the search through the marks finds, said of the graph
 pub marked_lowest :
-    {n r : ℕ} {ss ts marks : List ℕ} (ds Ds : List ℤ) → AllMarked n ss ts marks → LowestOr n (λ v. 0 < get_or marks v 0) (λ v. get_or marks v 0 ≡ 0) r →
-    LowestOr n (Reachable (graph_of n ss ts ds Ds)) (λ v. Reachable (graph_of n ss ts ds Ds) v → ⊥) r
-marked_lowest {n} {r} ds Ds all low =
-    record {
-      within = low.within;
-      before = λ i l. (all ds Ds i (omega (arith, low.within))).reaches (low.before i l);
-      bad = λ l. (all ds Ds r l).no_path (low.bad l);
-    }
+    {n : ℕ} {ss ts marks : List ℕ} (ds Ds : List ℤ) → AllMarked n ss ts marks → (x : Option ℕ) → LowestIn n (λ v. 0 < get_or marks v 0) (λ v. get_or marks v 0 ≡ 0) x →
+    LowestIn n (Reachable (graph_of n ss ts ds Ds)) (λ v. Reachable (graph_of n ss ts ds Ds) v → ⊥) x
+marked_lowest ds Ds all (Some v) found = record { below = found.below; before = λ i l. (all ds Ds i (let b = found.below in omega arith)).reaches (found.before i l); bad = (all ds Ds v found.below).no_path found.bad }
+marked_lowest ds Ds all None none = λ i l. (all ds Ds i l).reaches (none i l)

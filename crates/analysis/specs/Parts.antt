@@ -8,3 +8,4 @@ pub mod Paths
 pub mod Latest
 pub mod Cycles
 pub mod Arranged
+pub mod InChains

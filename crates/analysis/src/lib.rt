@@ -3,84 +3,58 @@
 // No caller is trusted: every list, length and number gets an answer. The promise is in specs/Promise.antt.
 #![tactic(auto)]
 
-ghost use Rattle.std.specs.Prelude.{◌≡◌, true, false, ◌<◌};
-ghost use Rattle.graphs.specs.Graph.{graph_of};
+ghost use Rattle.graphs.specs.Lists.{graph_in};
 ghost use Rattle.analysis.specs.Promise.{Analysed};
 
 mod arranged;
+mod chains;
 mod cycles;
 mod latest;
-mod lists;
 mod order;
 mod paths;
 mod reach;
 mod rules;
 
-use crate::arranged::input_refused;
-use crate::lists::{analyse_large, analyse_small};
+use crate::arranged::{analyse_within, input_refusal};
+use graphs::GraphLists;
+use refusals::Refusal;
 
-// What the analysis answers. `refusal` is 0, or the number of document 01's table, with its place.
-#[derive(Clone, Copy)]
-pub struct Analysis {
-    pub refusal: usize,
-    pub place: usize,
-    pub source_depth: usize,
-    pub target_depth: usize,
-}
+const MAX_EVENTS: usize = 1024;
 
-// Refusal `number` at `place`: depths 0.
-pub(crate) fn refused(number: usize, place: usize) -> Analysis
-    ensures { (result.refusal ≡ number) × (result.place ≡ place) × (result.source_depth ≡ 0) × (result.target_depth ≡ 0) }
-{
-    Analysis {
-        refusal: number,
-        place,
-        source_depth: 0,
-        target_depth: 0,
-    }
-}
+const MAX_RULES: usize = 4096;
 
-// Whether s and t are events.
-fn both_known(n: usize, s: usize, t: usize) -> bool
-    ensures yes { result ≡ true → (s < n) × (t < n) }
-    ensures no { result ≡ false → (s < n) × (t < n) → ⊥ }
-{
-    if s >= n {
-        return false;
-    }
-    if t >= n {
-        return false;
-    }
-    true
+// What a small graph has at most. It has small working lists, which take less time to clear.
+const SMALL_EVENTS: usize = 64;
+
+const SMALL_RULES: usize = 1024;
+
+// The depths of the two events of a question.
+#[derive(Clone, Copy, Debug, PartialEq, Eq)]
+pub struct Depths {
+    pub source: usize,
+    pub target: usize,
 }
 
 // U against s of each of the n events, into `latest`, and the depths of s and t. Delays may be from −limit to limit. Places beyond the n keep what they
 // held; refused, the whole list does.
 pub fn analyse(
-    n: usize,
-    sources: &[usize],
-    targets: &[usize],
-    leasts: &[i64],
-    mosts: &[i64],
+    lists: &GraphLists<'_>,
     limit: usize,
     s: usize,
     t: usize,
     latest: &mut [i32],
-) -> Analysis
-    ensures { Analysed limit (graph_of n sources.now targets.now leasts.now mosts.now) s t latest.old latest.new result }
+) -> Result<Depths, Refusal>
+    ensures { Analysed limit (graph_in lists.now) s t latest.old latest.new result }
 {
-    let counts = refusals::check_counts(1024, 4096, n, sources, targets, leasts, mosts);
-    if counts != 0 {
-        return refused(counts, 0);
+    refusals::check_counts(lists, MAX_EVENTS, MAX_RULES)?;
+    if latest.len() < lists.events {
+        return Err(Refusal::ShortList);
     }
-    if latest.len() < n {
-        return refused(23, 0);
+    if s >= lists.events || t >= lists.events {
+        return Err(input_refusal(lists, limit, s, t));
     }
-    if !both_known(n, s, t) {
-        return input_refused(n, sources, targets, leasts, mosts, limit, s, t);
+    if lists.events <= SMALL_EVENTS && lists.sources.len() <= SMALL_RULES {
+        return analyse_within::<SMALL_EVENTS, SMALL_RULES>(lists, limit, s, t, latest);
     }
-    if n <= 64 && sources.len() <= 1024 {
-        return analyse_small(n, sources, targets, leasts, mosts, limit, s, t, latest);
-    }
-    analyse_large(n, sources, targets, leasts, mosts, limit, s, t, latest)
+    analyse_within::<MAX_EVENTS, MAX_RULES>(lists, limit, s, t, latest)
 }

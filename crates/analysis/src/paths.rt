@@ -3,25 +3,21 @@
 ghost use Rattle.std.specs.Prelude.{◌≡◌, List, ℕ, ◌<◌, ◌≤◌, ℤ, pos, length, get_or};
 ghost use Rattle.integers.specs.Within.{Within};
 ghost use Rattle.sequences.specs.Filled.{Filled};
-ghost use Rattle.graphs.specs.Graph.{graph_of};
-ghost use Rattle.executions.specs.Steps.{Lesser};
-ghost use Rattle.analysis.specs.Parts.Paths.{absent, MReady, PassReady, PushReady, MPass, MAll};
+ghost use Rattle.graphs.specs.Lists.{graph_in};
+ghost use Rattle.analysis.specs.Parts.Paths.{absent, MPass, MAll};
+ghost use Rattle.analysis.specs.Parts.InChains.{MReadyIn, PassReadyIn, PushReadyIn};
 
+use crate::chains::Chains;
+
+// Kept: an `Option<i32>` would take twice the memory of each event in the lent list, which holds U afterwards.
 pub(crate) const ABSENT: i32 = 2100000000;
 
-// The lesser of two numbers.
-pub(crate) fn lesser(x: i32, y: i32) -> i32
-    ensures { Lesser x y result }
+// A delay of a rule, in 32 bits.
+pub(crate) fn delay_of(delays: &[i64], i: usize) -> i32
+    requires { (i < length delays.now) × Within 1001000 (get_or delays.now i (pos 0)) }
+    ensures { result ≡ get_or delays.now i (pos 0) }
 {
-    if x < y { x } else { y }
-}
-
-// The least delay of rule i, in 32 bits.
-fn least_delay(leasts: &[i64], i: usize) -> i32
-    requires { (i < length leasts.now) × Within 1001000 (get_or leasts.now i (pos 0)) }
-    ensures { result ≡ get_or leasts.now i (pos 0) }
-{
-    leasts[i] as i32
+    delays[i] as i32
 }
 
 // No event has an m yet.
@@ -29,67 +25,40 @@ fn clear(n: usize, m: &mut [i32])
     requires { n ≤ length m.old }
     ensures { Filled (pos 0) n (λ v x. x ≡ absent) m.old m.new }
 {
-    let mut v = 0;
-    while v < n {
-        m[v] = ABSENT;
-        v += 1;
-    }
+    m[..n].fill(ABSENT);
 }
 
 // Hands m(v) on along the rules into `v`: the source of each has a path of that m less the least delay.
-fn push(sources: &[usize], leasts: &[i64], heads: &[u16], nexts: &[u16], v: usize, m: &mut [i32])
-    requires { (n : ℕ) × (ts : List ℕ) × (Ds : List ℤ) × (order : List ℕ) × (s : ℕ) × (k : ℕ) × (m₀ : List ℤ) × PushReady n sources.now ts leasts.now Ds heads.now nexts.now order s k v m₀ m.old }
-    ensures { (n : ℕ) (ts : List ℕ) (Ds : List ℤ) (order : List ℕ) (s k : ℕ) (m₀ : List ℤ) (r : PushReady n sources.now ts leasts.now Ds heads.now nexts.now order s k v m₀ m.old) → MPass (graph_of n sources.now ts leasts.now Ds) s r.ready.arranged.rank k 0 m₀ m.new }
+fn push(chains: &Chains<'_>, v: usize, m: &mut [i32])
+    requires { (order : List ℕ) × (s : ℕ) × (k : ℕ) × (m₀ : List ℤ) × PushReadyIn chains.now order s k v m₀ m.old }
+    ensures { (order : List ℕ) (s k : ℕ) (m₀ : List ℤ) (r : PushReadyIn chains.now order s k v m₀ m.old) → MPass (graph_in chains.now.lists) s r.ready.arranged.rank k 0 m₀ m.new }
 {
     let here = m[v];
-    let mut e = heads[v] as usize;
-    while e != 0 {
-        let i = e - 1;
-        let u = sources[i];
-        let x = here - least_delay(leasts, i);
-        m[u] = lesser(m[u], x);
-        e = nexts[i] as usize;
+    for i in chains.rules_into(v) {
+        let u = chains.lists.sources[i];
+        m[u] = m[u].min(here - delay_of(chains.lists.leasts, i));
     }
 }
 
 // Lets each event hand on its m when its turn comes.
-fn push_all(
-    n: usize,
-    sources: &[usize],
-    leasts: &[i64],
-    heads: &[u16],
-    nexts: &[u16],
-    order: &[u16],
-    m: &mut [i32],
-)
-    requires { (ts : List ℕ) × (Ds : List ℤ) × (s : ℕ) × (m₀ : List ℤ) × PassReady n sources.now ts leasts.now Ds heads.now nexts.now order.now s m₀ m.old }
-    ensures { (ts : List ℕ) (Ds : List ℤ) (s : ℕ) (m₀ : List ℤ) → PassReady n sources.now ts leasts.now Ds heads.now nexts.now order.now s m₀ m.old → MAll (graph_of n sources.now ts leasts.now Ds) s m₀ m.new }
+fn push_all(chains: &Chains<'_>, order: &[u16], m: &mut [i32])
+    requires { (s : ℕ) × (m₀ : List ℤ) × PassReadyIn chains.now order.now s m₀ m.old }
+    ensures { (s : ℕ) (m₀ : List ℤ) → PassReadyIn chains.now order.now s m₀ m.old → MAll (graph_in chains.now.lists) s m₀ m.new }
 {
-    let mut k = 0;
-    while k < n {
+    for k in 0..chains.lists.events {
         let v = order[k] as usize;
-        k += 1;
         if m[v] != ABSENT {
-            push(sources, leasts, heads, nexts, v, m);
+            push(chains, v, m);
         }
     }
 }
 
-// m of each of the n events into `m`. Places beyond keep what they held.
-pub(crate) fn find_m(
-    n: usize,
-    sources: &[usize],
-    leasts: &[i64],
-    heads: &[u16],
-    nexts: &[u16],
-    order: &[u16],
-    s: usize,
-    m: &mut [i32],
-)
-    requires { (ts : List ℕ) × (Ds : List ℤ) × MReady n sources.now ts leasts.now Ds heads.now nexts.now order.now s m.old }
-    ensures { (ts : List ℕ) (Ds : List ℤ) → MReady n sources.now ts leasts.now Ds heads.now nexts.now order.now s m.old → MAll (graph_of n sources.now ts leasts.now Ds) s m.old m.new }
+// m of each event into `m`. Places beyond keep what they held.
+pub(crate) fn find_m(chains: &Chains<'_>, order: &[u16], s: usize, m: &mut [i32])
+    requires { MReadyIn chains.now order.now s m.old }
+    ensures { MAll (graph_in chains.now.lists) s m.old m.new }
 {
-    clear(n, m);
+    clear(chains.lists.events, m);
     m[s] = 0;
-    push_all(n, sources, leasts, heads, nexts, order, m);
+    push_all(chains, order, m);
 }

@@ -1,107 +1,79 @@
 // The lowest event that the root doesn't reach. Where the graph has no cycle and every event but the root has a rule into it, the root reaches them all; only
-// where one has none the events are marked, from the root on, and looked through.
-ghost use Rattle.std.specs.Prelude.{◌≡◌, true, false, List, ℕ, ◌<◌, ◌≤◌, ℤ, length, get_or};
-ghost use Rattle.verdicts.specs.Verdict.{LowestOr};
-ghost use Rattle.graphs.specs.Graph.{graph_of};
+// where one has none the events are marked, from the root on, and looked through. A mark is 1 or 0 in the list that holds the depths afterwards, so that it
+// takes no memory of its own.
+ghost use Rattle.std.specs.Prelude.{◌≡◌, true, ◌<◌, ◌≤◌, length, get_or};
+ghost use Rattle.verdicts.specs.Verdict.{LowestIn};
+ghost use Rattle.graphs.specs.Lists.{graph_in};
 ghost use Rattle.graphs.specs.Path.{Reachable};
-ghost use Rattle.analysis.specs.Parts.Reach.{Arranged, Led, MarkReady, SourceMarked, MarkOf, AllMarked};
+ghost use Rattle.analysis.specs.Parts.Reach.{Led};
+ghost use Rattle.analysis.specs.Parts.InChains.{ArrangedIn, SourceMarkedIn, MarkOfIn, AllMarkedIn};
+
+use crate::chains::Chains;
 
 // Whether every event but the root has a rule into it.
-fn all_led(n: usize, heads: &[u16]) -> bool
-    requires { n ≤ length heads.now }
-    ensures { result ≡ true → Led n heads.now }
+fn all_led(chains: &Chains<'_>) -> bool
+    ensures { result ≡ true → Led chains.now.lists.events chains.now.heads.now }
 {
-    let mut v = 1;
-    while v < n {
-        if heads[v] == 0 {
+    for v in 1..chains.lists.events {
+        if chains.heads[v] == 0 {
             return false;
         }
-        v += 1;
     }
     true
 }
 
 // Whether the source of a rule into `v` is marked.
-fn source_marked(sources: &[usize], heads: &[u16], nexts: &[u16], marks: &[u16], v: usize) -> bool
-    requires { (n : ℕ) × (ts : List ℕ) × MarkReady n sources.now ts heads.now nexts.now marks.now v }
-    ensures { (n : ℕ) (ts : List ℕ) → MarkReady n sources.now ts heads.now nexts.now marks.now v → SourceMarked sources.now ts marks.now v result }
+fn source_marked(chains: &Chains<'_>, marks: &[u16], v: usize) -> bool
+    requires { (v < chains.now.lists.events) × (chains.now.lists.events ≤ length marks.now) }
+    ensures { SourceMarkedIn chains.now marks.now v result }
 {
-    let mut e = heads[v] as usize;
-    while e != 0 {
-        let i = e - 1;
-        let u = sources[i];
-        if marks[u] != 0 {
+    for i in chains.rules_into(v) {
+        if marks[chains.lists.sources[i]] != 0 {
             return true;
         }
-        e = nexts[i] as usize;
     }
     false
 }
 
-// The mark of `v`, 1 or 0, from those of the sources of the rules into it.
-fn mark_of(sources: &[usize], heads: &[u16], nexts: &[u16], marks: &[u16], v: usize) -> u16
-    requires { (n : ℕ) × (ts : List ℕ) × MarkReady n sources.now ts heads.now nexts.now marks.now v }
-    ensures { (n : ℕ) (ts : List ℕ) → MarkReady n sources.now ts heads.now nexts.now marks.now v → MarkOf sources.now ts marks.now v result }
+// The mark of `v`, from those of the sources of the rules into it.
+fn mark_of(chains: &Chains<'_>, marks: &[u16], v: usize) -> u16
+    requires { (v < chains.now.lists.events) × (chains.now.lists.events ≤ length marks.now) }
+    ensures { MarkOfIn chains.now marks.now v result }
 {
-    if v == 0 {
-        return 1;
-    }
-    if source_marked(sources, heads, nexts, marks, v) {
-        return 1;
-    }
-    0
+    u16::from(v == 0 || source_marked(chains, marks, v))
 }
 
 // Marks the events that the root reaches, from the root on.
-fn mark_reached(
-    n: usize,
-    sources: &[usize],
-    heads: &[u16],
-    nexts: &[u16],
-    order: &[u16],
-    marks: &mut [u16],
-)
-    requires { ((ts : List ℕ) × Arranged n sources.now ts heads.now nexts.now order.now) × (n ≤ length marks.old) }
-    ensures { (ts : List ℕ) → Arranged n sources.now ts heads.now nexts.now order.now → AllMarked n sources.now ts marks.new }
+fn mark_reached(chains: &Chains<'_>, order: &[u16], marks: &mut [u16])
+    requires { ArrangedIn chains.now order.now × (chains.now.lists.events ≤ length marks.old) }
+    ensures { AllMarkedIn chains.now marks.new }
 {
-    let mut k = n;
-    while k > 0 {
-        k -= 1;
+    for k in (0..chains.lists.events).rev() {
         let v = order[k] as usize;
-        marks[v] = mark_of(sources, heads, nexts, marks, v);
+        marks[v] = mark_of(chains, marks, v);
     }
 }
 
-// The lowest event below n without a mark, or n.
-fn lowest_unmarked(n: usize, marks: &[u16]) -> usize
+// The lowest event below n without a mark.
+fn lowest_unmarked(n: usize, marks: &[u16]) -> Option<usize>
     requires { n ≤ length marks.now }
-    ensures { LowestOr n (λ v. 0 < get_or marks.now v 0) (λ v. get_or marks.now v 0 ≡ 0) result }
+    ensures { LowestIn n (λ v. 0 < get_or marks.now v 0) (λ v. get_or marks.now v 0 ≡ 0) result }
 {
-    let mut v = 0;
-    while v < n {
-        if marks[v] == 0 {
-            return v;
-        }
-        v += 1;
-    }
-    v
+    marks[..n].iter().position(|mark| *mark == 0)
 }
 
-// The lowest event that the root doesn't reach, or n.
+// The lowest event that the root doesn't reach.
 pub(crate) fn lowest_unreached(
-    n: usize,
-    sources: &[usize],
-    heads: &[u16],
-    nexts: &[u16],
+    chains: &Chains<'_>,
     order: &[u16],
     marks: &mut [u16],
-) -> usize
-    requires { ((ts : List ℕ) × Arranged n sources.now ts heads.now nexts.now order.now) × (n ≤ length marks.old) }
-    ensures { (ts : List ℕ) (ds Ds : List ℤ) → Arranged n sources.now ts heads.now nexts.now order.now → LowestOr n (Reachable (graph_of n sources.now ts ds Ds)) (λ v. Reachable (graph_of n sources.now ts ds Ds) v → ⊥) result }
+) -> Option<usize>
+    requires { ArrangedIn chains.now order.now × (chains.now.lists.events ≤ length marks.old) }
+    ensures { LowestIn chains.now.lists.events (Reachable (graph_in chains.now.lists)) (λ v. Reachable (graph_in chains.now.lists) v → ⊥) result }
 {
-    if all_led(n, heads) {
-        return n;
+    if all_led(chains) {
+        return None;
     }
-    mark_reached(n, sources, heads, nexts, order, marks);
-    lowest_unmarked(n, marks)
+    mark_reached(chains, order, marks);
+    lowest_unmarked(chains.lists.events, marks)
 }

@@ -1,21 +1,23 @@
 -- From the marks of the rules to the lowest event at which an execution's rule is broken.
---     root_broken       a root that is not at 0 is broken, and none is lower
---     met-none, met_root     before the rules are passed the root alone is marked
+--     met_root, met_at_root     before the rules are passed the root alone is marked
 --     events_judged     else the lowest event that a rule breaks or no rule meets
 -- Assumes nothing.
 use mathlib.Core.Path.{◌≡◌, refl, sym, ap, subst, ◌∙◌}
 use mathlib.Core.Bool.{Bool, true, false, true≢false}
 use mathlib.Core.Logic.{⊎_elim}
 use mathlib.Core.List.{List}
-use Prim.Native.Nat.{ℕ, zero, suc, ◌<◌, ◌≤◌, zero-le}
+use Prim.Native.Nat.{ℕ, zero, suc, ◌<◌, ◌≤◌}
 use native.Mathlib.Decide.{ℕ_discrete}
 use native.Mathlib.Omega.{arith}
 use lib.IntN.{ℤ, pos, ◌+ℤ◌}
 use lib.Signed.{◌≤ℤ◌}
 use lib.ListN.{get_or, set, replicate, length-replicate}
 use lib.Seq.{get_or-set_same, get_or-set_other}
-use borrow.Author.Count.{below_none}
-use Rattle.verdicts.specs.Verdict.{LowestOr}
+use Rattle.std.specs.Bool.{then_some}
+use Rattle.std.specs.Option.{option_or}
+use Rattle.std.proofs.Common.{Option, Some, None, nat_lt}
+use Rattle.std.proofs.lemmas.Bool.Decides.{nat_tests}
+use Rattle.verdicts.specs.Verdict.{LowestIn}
 use Rattle.graphs.specs.Graph.{Graph, rules, source, target, Greatest}
 use Rattle.graphs.specs.Limits.{SoundGraph}
 use Rattle.graphs.proofs.Greatest.{root_has_no_rule}
@@ -43,9 +45,6 @@ met_at_root n l = get_or-set_same (replicate n false) 0 true false (rw (length-r
 module _ (g : Graph) (delay time : ℕ → ℤ) where
   abbrev Wrong : ℕ → Type 0
   Wrong v = RightAt g delay time v → ⊥
-
-  pub root_broken : (time 0 ≡ pos 0 → ⊥) → LowestOr g.events (RightAt g delay time) Wrong 0
-  root_broken no-root = record { within = zero-le; before = below_none (RightAt g delay time); bad = λ l right. no-root (right.root refl) }
 
   module _ (sound : SoundGraph g) (root : time 0 ≡ pos 0) (met₀ met : List Bool) (lowest : ℕ) (only-root : (v : ℕ) → get_or met₀ v false ≡ true → v ≡ 0) (at_root : get_or met₀ 0 false ≡ true) (m : RulesMarked g delay time met₀ (rules g) lowest met) where
     -- an event below the lowest broken one that is met is right
@@ -87,10 +86,18 @@ module _ (g : Graph) (delay time : ℕ → ℤ) where
             let (i, l, to, reached) = (at.other no-root).reached in
             none i l to (kept_of i l (subst (RightAt g delay time) (sym to) at), reached ∙ ap time (sym to))
 
-    pub events_judged : (r : ℕ) → LowestOr lowest (λ v. get_or met v false ≡ true) (λ v. get_or met v false ≡ false) r → LowestOr g.events (RightAt g delay time) Wrong r
-    events_judged r h =
+    -- what the search of the unmet finds is the lowest broken event; where it finds none, the lowest that a rule breaks is, if there is one
+    pub events_judged : (unmet : Option ℕ) (below : Bool) → below ≡ nat_lt lowest g.events → LowestIn lowest (λ v. get_or met v false ≡ true) (λ v. get_or met v false ≡ false) unmet →
+        LowestIn g.events (RightAt g delay time) Wrong (option_or unmet (then_some below lowest))
+    events_judged (Some v) below e h =
         record {
-          within = omega (arith, h.within, m.within);
-          before = λ i l. right i (omega (arith, h.within)) (h.before i l);
-          bad = wrong r h.within h.bad;
+          below = omega (arith, h.below, m.within);
+          before = λ i l. right i (omega (arith, h.below)) (h.before i l);
+          bad = wrong v (omega (arith, h.below)) (λ l. h.bad) (omega (arith, h.below, m.within));
         }
+    events_judged None true e h =
+        let some : lowest < g.events = grind (arith, nat_tests) in
+        record { below = some; before = λ i l. right i l (h i l); bad = wrong lowest (omega arith) (λ l. absurd (omega arith)) some }
+    events_judged None false e h =
+        let none : g.events ≤ lowest = grind (arith, nat_tests) in
+        λ i l. right i (omega arith) (h i (omega arith))

@@ -1,6 +1,4 @@
 -- Laws of claims, and the theorems.
-pub mod Sums
-pub mod RuleLaws
 pub mod Marking
 pub mod Breaking
 pub mod Executions

@@ -5,21 +5,23 @@
 --     WrongLists g times delays   == the lists are not of exactly n and r places
 --     ClaimVerdict g s t …        == the refusals of a claim, in this order: 21, 22, 2, 3, 4, 5, 6
 --     Stands g s t x delay time j == j is the verdict on a claim that isn't refused
---     numbers_of j                 == the numbers of each judgement
---     Accepts j                   == the claim is accepted
---     Judged g s t x times delays j == j is the judgement
+--     numbers_of a                 == the numbers of each answer: those of a judgement, with refusal 0; or the refusal's number and place, all else 0
+--     Accepts a                   == the claim is accepted
+--     Judged g s t x times delays a == a is the answer: the refusal, or the judgement
 --     JudgedAs …                  == the same, of its numbers
 -- An execution is that of executions/specs/Execution.antt, "our maximum" that of Separation.antt there. The claimed number, times and delays are whole numbers
 -- without limit here. Assumes nothing.
-use Rattle.std.specs.Prelude.{◌≡◌, ◌⊎◌, List, ◌∷◌, ◌++◌, ℕ, ◌<◌, ℤ, pos, ◌+ℤ◌, ◌-ℤ◌, ◌≤ℤ◌, ◌<ℤ◌, length}
+use Rattle.std.specs.Prelude.{◌≡◌, ◌⊎◌, Result, Ok, Err, IfOk, List, ◌∷◌, ◌++◌, ℕ, ◌<◌, ℤ, pos, ◌+ℤ◌, ◌-ℤ◌, ◌≤ℤ◌, ◌<ℤ◌, length}
 use Rattle.verdicts.specs.Verdict.{Check, check, FirstOf, AtZero, Lowest}
 use Rattle.graphs.specs.Graph.{Graph, rules, source, target, least, most, Greatest}
 use Rattle.graphs.specs.Refusal.{EventsOutside, RulesOutside, MissingEnd, rule_checks, path_checks}
 use Rattle.executions.specs.Execution.{Execution}
 use Rattle.executions.specs.Separation.{Separation}
+use Rattle.refusals.specs.declared.Refusal.{Refusal}
+use Rattle.refusals.specs.Numbers.{number_of, place_of}
 use Rattle.separation.specs.Promise.{at}
 use Rattle.claims.specs.declared.Judgement.{Judgement}
-use Rattle.claims.specs.declared.Judgement.TheVariants.{Refused, Maximum, Below, Broken, Differs}
+use Rattle.claims.specs.declared.Judgement.TheVariants.{Maximum, Below, Broken, Differs}
 use Rattle.claims.specs.declared.Numbers.{Numbers}
 
 -- 01's sentences, event by event: "Each rule takes one delay from d to D. The root is at time 0. Every other event is at the greatest value of (time of source +
@@ -62,23 +64,23 @@ pub data Stands (g : Graph) (s t : ℕ) (claimed : ℤ) (delay time : ℕ → �
   maximum : Holds g s t claimed delay time → Separation g s t claimed → Stands g s t claimed delay time Maximum
 
 -- refusal and place, the verdict's number, and the broken event; 0 where there is none
-abbrev pub numbers_of : Judgement → Numbers
-numbers_of (Refused number place) = record { refusal = number; place = place; verdict = 0; event = 0 }
-numbers_of Maximum = record { refusal = 0; place = 0; verdict = 1; event = 0 }
-numbers_of Below = record { refusal = 0; place = 0; verdict = 2; event = 0 }
-numbers_of (Broken v) = record { refusal = 0; place = 0; verdict = 3; event = v }
-numbers_of Differs = record { refusal = 0; place = 0; verdict = 4; event = 0 }
+abbrev pub numbers_of : Result Judgement Refusal → Numbers
+numbers_of (Ok Maximum) = record { refusal = 0; place = 0; verdict = 1; event = 0 }
+numbers_of (Ok Below) = record { refusal = 0; place = 0; verdict = 2; event = 0 }
+numbers_of (Ok (Broken v)) = record { refusal = 0; place = 0; verdict = 3; event = v }
+numbers_of (Ok Differs) = record { refusal = 0; place = 0; verdict = 4; event = 0 }
+numbers_of (Err r) = record { refusal = number_of r; place = place_of r; verdict = 0; event = 0 }
 
 -- 1 and 2 are the numbers of an accepted claim
-abbrev pub Accepts : Judgement → Type 0
-Accepts j = ((numbers_of j).verdict ≡ 1) ⊎ ((numbers_of j).verdict ≡ 2)
+abbrev pub Accepts : Result Judgement Refusal → Type 0
+Accepts a = ((numbers_of a).verdict ≡ 1) ⊎ ((numbers_of a).verdict ≡ 2)
 
-pub record Judged (g : Graph) (s t : ℕ) (claimed : ℤ) (times delays : List ℤ) (j : Judgement) : Type 0 where
-  pub refusal : ClaimVerdict g s t times delays (numbers_of j).refusal (numbers_of j).place
-  pub verdict : (numbers_of j).refusal ≡ 0 → Stands g s t claimed (at delays) (at times) j
+pub record Judged (g : Graph) (s t : ℕ) (claimed : ℤ) (times delays : List ℤ) (a : Result Judgement Refusal) : Type 0 where
+  pub refusal : ClaimVerdict g s t times delays (numbers_of a).refusal (numbers_of a).place
+  pub verdict : IfOk a (Stands g s t claimed (at delays) (at times))
 
--- the same of a judgement's numbers
+-- the same of the numbers of an answer
 pub record JudgedAs (g : Graph) (s t : ℕ) (claimed : ℤ) (times delays : List ℤ) (n : Numbers) : Type 0 where
-  pub judgement : Judgement
+  pub judgement : Result Judgement Refusal
   pub judged : Judged g s t claimed times delays judgement
   pub numbers : n ≡ numbers_of judgement

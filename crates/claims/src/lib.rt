@@ -1,36 +1,37 @@
 // Claims: a claimed number for the gap between two events, with a list of event times and one of rule delays, judged by 01's executions.
-//     judge      the refusal; or the lowest event at which an execution's rule is broken; or that the number differs; or whether it is our maximum or below it
-//     as_numbers a judgement as four numbers, for callers that take no enum
+//     judge    the refusal; or the lowest event at which an execution's rule is broken; or that the number differs; or whether it is our maximum or below it
 // No caller is trusted: every list, length and number gets an answer, and no sum wraps. The promises are in specs/Claim.antt.
 #![tactic(auto)]
 
 ghost use Rattle.std.specs.Prelude.{◌≡◌, ◌-ℤ◌};
 ghost use Rattle.integers.specs.Within.{Within};
-ghost use Rattle.graphs.specs.Graph.{graph_of};
+ghost use Rattle.graphs.specs.Lists.{graph_in};
 ghost use Rattle.claims.specs.Claim.{Judged, numbers_of};
-ghost use Rattle.claims.specs.Parts.Verdicts.{ListsJudged, NumberJudged};
+ghost use Rattle.claims.specs.Parts.Verdicts.{NumberJudged};
 
 mod events;
 mod rules;
 
 use crate::events::broken_event;
+use graphs::GraphLists;
+use refusals::Refusal;
 
-const EVENTS_OUTSIDE: usize = 21;
+const MAX_EVENTS: usize = 1024;
 
-const RULES_OUTSIDE: usize = 22;
+const MAX_RULES: usize = 4096;
 
-// What is said of a claim: a refusal with its place, or one of the four verdicts. `Broken` hands on the event.
-#[derive(Clone, Copy)]
+// What is said of a claim that isn't refused. `Broken` hands on the event.
+#[derive(Clone, Copy, Debug, PartialEq, Eq)]
 pub enum Judgement {
-    Refused(usize, usize),
     Maximum,
     Below,
     Broken(usize),
     Differs,
 }
 
-// The same as numbers: `verdict` is 1, 2, 3, 4 in the order above, `event` the broken event. What a case has no value for is 0.
-#[derive(Clone, Copy)]
+// A judgement in numbers, for callers that take no `Result`: `verdict` is 1, 2, 3, 4 in the order above, `event` the broken event. What a case has no value
+// for is 0.
+#[derive(Clone, Copy, Debug, PartialEq, Eq)]
 pub struct Numbers {
     pub refusal: usize,
     pub place: usize,
@@ -50,35 +51,30 @@ fn verdict_numbers(verdict: usize, event: usize) -> Numbers
     }
 }
 
-// The numbers of a judgement.
-pub fn as_numbers(judgement: Judgement) -> Numbers
-    ensures { result ≡ numbers_of judgement }
-{
-    match judgement {
-        Judgement::Refused(refusal, place) => Numbers {
-            refusal,
-            place,
-            verdict: 0,
-            event: 0,
-        },
-        Judgement::Maximum => verdict_numbers(1, 0),
-        Judgement::Below => verdict_numbers(2, 0),
-        Judgement::Broken(event) => verdict_numbers(3, event),
-        Judgement::Differs => verdict_numbers(4, 0),
+impl From<Result<Judgement, Refusal>> for Numbers {
+    ghost from_gives = { λ answer numbers. numbers ≡ numbers_of answer };
+
+    fn from(answer: Result<Judgement, Refusal>) -> Numbers {
+        match answer {
+            Ok(Judgement::Maximum) => verdict_numbers(1, 0),
+            Ok(Judgement::Below) => verdict_numbers(2, 0),
+            Ok(Judgement::Broken(event)) => verdict_numbers(3, event),
+            Ok(Judgement::Differs) => verdict_numbers(4, 0),
+            Err(refusal) => Numbers {
+                refusal: refusal.number(),
+                place: refusal.place(),
+                verdict: 0,
+                event: 0,
+            },
+        }
     }
 }
 
-// Whether a list of that many times, or of that many delays, has not exactly one place for each event or rule.
-fn wrong_lists(times: usize, n: usize, delays: usize, rules: usize) -> bool
-    ensures { ListsJudged times n delays rules result }
-{
-    if times != n {
-        return true;
-    }
-    if delays != rules {
-        return true;
-    }
-    false
+// A claim's two lists: the times of the events and the delays of the rules.
+#[derive(Clone, Copy)]
+pub(crate) struct ClaimLists<'a> {
+    pub(crate) times: &'a [i64],
+    pub(crate) delays: &'a [i64],
 }
 
 // The judgement on a claim whose lists are an execution, in which s happens at `start` and t at `end`.
@@ -88,42 +84,32 @@ fn judge_number(start: i64, end: i64, claimed: i64, maximum: i64) -> Judgement
 {
     let gap = end - start;
     if gap != claimed {
-        return Judgement::Differs;
+        Judgement::Differs
+    } else if gap < maximum {
+        Judgement::Below
+    } else {
+        Judgement::Maximum
     }
-    if gap < maximum {
-        return Judgement::Below;
-    }
-    Judgement::Maximum
 }
 
 // The judgement on the claim that t(t) − t(s) is `claimed` where the events happen at `times` and the rules take `delays`.
 pub fn judge(
-    n: usize,
-    sources: &[usize],
-    targets: &[usize],
-    leasts: &[i64],
-    mosts: &[i64],
+    lists: &GraphLists<'_>,
     s: usize,
     t: usize,
     claimed: i64,
     times: &[i64],
     delays: &[i64],
-) -> Judgement
-    ensures { Judged (graph_of n sources.now targets.now leasts.now mosts.now) s t claimed times.now delays.now result }
+) -> Result<Judgement, Refusal>
+    ensures { Judged (graph_in lists.now) s t claimed times.now delays.now result }
 {
-    let answer = separation::separation(n, sources, targets, leasts, mosts, s, t);
-    if answer.refusal == EVENTS_OUTSIDE {
-        return Judgement::Refused(answer.refusal, answer.place);
+    refusals::check_counts(lists, MAX_EVENTS, MAX_RULES)?;
+    if times.len() != lists.events || delays.len() != lists.sources.len() {
+        return Err(Refusal::RulesOutside);
     }
-    if wrong_lists(times.len(), n, delays.len(), sources.len()) {
-        return Judgement::Refused(RULES_OUTSIDE, 0);
+    let found = separation::separation(lists, s, t)?;
+    if let Some(event) = broken_event(lists, &ClaimLists { times, delays }) {
+        return Ok(Judgement::Broken(event));
     }
-    if answer.refusal != 0 {
-        return Judgement::Refused(answer.refusal, answer.place);
-    }
-    let event = broken_event(n, sources, targets, leasts, mosts, times, delays);
-    if event < n {
-        return Judgement::Broken(event);
-    }
-    judge_number(times[s], times[t], claimed, answer.separation)
+    Ok(judge_number(times[s], times[t], claimed, found.separation))
 }

@@ -3,6 +3,9 @@ ghost use Rattle.graphs.specs.Graph.{graph_of};
 ghost use Rattle.separation.specs.Coarse.{CoarseAnswered};
 ghost use Rattle.crankforest.specs.Entries.{answer_of};
 
+use graphs::GraphLists;
+use separation::Answer;
+
 // The separation of the graph whose delays are rounded outward to steps of q, and both depths.
 #[unsafe(no_mangle)]
 pub extern "C" fn crankforest_coarse(
@@ -21,10 +24,16 @@ pub extern "C" fn crankforest_coarse(
 ) -> usize
     ensures { CoarseAnswered (graph_of n sources.now targets.now leasts.now mosts.now) q s t (answer_of result place.new separation.new source_depth.new target_depth.new) }
 {
-    let answer = separation::coarse_separation(n, sources, targets, leasts, mosts, s, t, q);
+    let lists = GraphLists {
+        events: n,
+        sources,
+        targets,
+        leasts,
+        mosts,
+    };
+    let answer = Answer::from(separation::coarse_separation(&lists, s, t, q));
     *place = answer.place;
-    let greatest = answer.separation;
-    *separation = greatest;
+    *separation = answer.separation;
     *source_depth = answer.source_depth;
     *target_depth = answer.target_depth;
     answer.refusal

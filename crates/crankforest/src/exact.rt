@@ -3,6 +3,9 @@ ghost use Rattle.graphs.specs.Graph.{graph_of};
 ghost use Rattle.separation.specs.Promise.{Answered};
 ghost use Rattle.crankforest.specs.Entries.{answer_of};
 
+use graphs::GraphLists;
+use separation::Answer;
+
 // The greatest t(t) − t(s) over all executions, and both depths.
 #[unsafe(no_mangle)]
 pub extern "C" fn crankforest_exact(
@@ -20,10 +23,16 @@ pub extern "C" fn crankforest_exact(
 ) -> usize
     ensures { Answered (graph_of n sources.now targets.now leasts.now mosts.now) s t ⊥ (answer_of result place.new separation.new source_depth.new target_depth.new) }
 {
-    let answer = separation::separation(n, sources, targets, leasts, mosts, s, t);
+    let lists = GraphLists {
+        events: n,
+        sources,
+        targets,
+        leasts,
+        mosts,
+    };
+    let answer = Answer::from(separation::separation(&lists, s, t));
     *place = answer.place;
-    let greatest = answer.separation;
-    *separation = greatest;
+    *separation = answer.separation;
     *source_depth = answer.source_depth;
     *target_depth = answer.target_depth;
     answer.refusal

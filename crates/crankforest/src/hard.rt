@@ -3,6 +3,9 @@ ghost use Rattle.graphs.specs.Graph.{graph_of};
 ghost use Rattle.deadlines.specs.Promise.{HardAnswered};
 ghost use Rattle.crankforest.specs.Entries.{hard_answer_of};
 
+use deadlines::HardAnswer;
+use graphs::GraphLists;
+
 // The least and the greatest t(t) − t(s) over all times that meet every rule on its own, and both depths.
 #[unsafe(no_mangle)]
 pub extern "C" fn crankforest_hard(
@@ -21,12 +24,17 @@ pub extern "C" fn crankforest_hard(
 ) -> usize
     ensures { HardAnswered (graph_of n sources.now targets.now leasts.now mosts.now) s t ⊥ (hard_answer_of result place.new least.new most.new source_depth.new target_depth.new) }
 {
-    let answer = deadlines::hard_separation(n, sources, targets, leasts, mosts, s, t);
+    let lists = GraphLists {
+        events: n,
+        sources,
+        targets,
+        leasts,
+        mosts,
+    };
+    let answer = HardAnswer::from(deadlines::hard_separation(&lists, s, t));
     *place = answer.place;
-    let lowest = answer.least;
-    *least = lowest;
-    let greatest = answer.most;
-    *most = greatest;
+    *least = answer.least;
+    *most = answer.most;
     *source_depth = answer.source_depth;
     *target_depth = answer.target_depth;
     answer.refusal

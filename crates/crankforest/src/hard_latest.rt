@@ -4,6 +4,9 @@ ghost use Rattle.separation.specs.Promise.{ShortLists};
 ghost use Rattle.deadlines.specs.Promise.{HardAnswered, HardWritten};
 ghost use Rattle.crankforest.specs.Entries.{hard_answer_of};
 
+use deadlines::HardAnswer;
+use graphs::GraphLists;
+
 // The same, and the schedule that has every event as late against s as hard deadlines allow, in the two lent lists.
 #[unsafe(no_mangle)]
 pub extern "C" fn crankforest_hard_schedule(
@@ -25,12 +28,17 @@ pub extern "C" fn crankforest_hard_schedule(
     ensures hard_answered { HardAnswered (graph_of n sources.now targets.now leasts.now mosts.now) s t (ShortLists (graph_of n sources.now targets.now leasts.now mosts.now) times.old delays.old) (hard_answer_of result place.new least.new most.new source_depth.new target_depth.new) }
     ensures hard_written { HardWritten (graph_of n sources.now targets.now leasts.now mosts.now) s (hard_answer_of result place.new least.new most.new source_depth.new target_depth.new) times.old delays.old times.new delays.new }
 {
-    let answer = deadlines::hard_schedule(n, sources, targets, leasts, mosts, s, t, times, delays);
+    let lists = GraphLists {
+        events: n,
+        sources,
+        targets,
+        leasts,
+        mosts,
+    };
+    let answer = HardAnswer::from(deadlines::hard_schedule(&lists, s, t, times, delays));
     *place = answer.place;
-    let lowest = answer.least;
-    *least = lowest;
-    let greatest = answer.most;
-    *most = greatest;
+    *least = answer.least;
+    *most = answer.most;
     *source_depth = answer.source_depth;
     *target_depth = answer.target_depth;
     answer.refusal

@@ -3,6 +3,9 @@ ghost use Rattle.graphs.specs.Graph.{graph_of};
 ghost use Rattle.claims.specs.Claim.{JudgedAs};
 ghost use Rattle.crankforest.specs.Entries.{judged_of};
 
+use claims::Numbers;
+use graphs::GraphLists;
+
 // The judgement on a claimed gap between s and t with its two lists: verdict 1, it equals our maximum; 2, it lies below; 3, `event` is broken; 4, the number
 // differs.
 #[unsafe(no_mangle)]
@@ -23,10 +26,14 @@ pub extern "C" fn crankforest_judge(
 ) -> usize
     ensures { JudgedAs (graph_of n sources.now targets.now leasts.now mosts.now) s t claimed times.now delays.now (judged_of result place.new verdict.new event.new) }
 {
-    let judgement = claims::judge(
-        n, sources, targets, leasts, mosts, s, t, claimed, times, delays,
-    );
-    let numbers = claims::as_numbers(judgement);
+    let lists = GraphLists {
+        events: n,
+        sources,
+        targets,
+        leasts,
+        mosts,
+    };
+    let numbers = Numbers::from(claims::judge(&lists, s, t, claimed, times, delays));
     *place = numbers.place;
     *verdict = numbers.verdict;
     *event = numbers.event;

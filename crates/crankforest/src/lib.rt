@@ -30,6 +30,7 @@ pub use hard::crankforest_hard;
 pub use hard_latest::crankforest_hard_schedule;
 pub use judging::crankforest_judge;
 pub use latest::crankforest_schedule;
+use text::PairsAnswer;
 pub use unfolding::crankforest_unfold;
 
 // The greatest t(t) − t(s) over all executions of the text's graph, or −4,000,000,000 minus the refusal's number.
@@ -37,13 +38,10 @@ pub use unfolding::crankforest_unfold;
 pub extern "C" fn crankforest_separation(text: &[u8], s: usize, t: usize) -> i64
     ensures { Entered text.now s t result }
 {
-    let answer = text::text_separation(text, s, t);
-    let refusal = answer.refusal;
-    if refusal == 0 {
-        let greatest = answer.separation;
-        return greatest;
+    match text::text_separation(text, s, t) {
+        Ok(found) => found.separation,
+        Err(refusal) => -4000000000 - refusal.number() as i64,
     }
-    -4000000000 - refusal as i64
 }
 
 // What the pair program writes for a text, into a lent list of at least 131,072 places, and the number of bytes. A shorter list is refused.
@@ -56,7 +54,7 @@ pub extern "C" fn crankforest_pairs(
 ) -> usize
     ensures { PairsWritten text.now out.old (pairs_answer_of result place.new bytes.new) out.new }
 {
-    let answer = text::write_pairs(text, out);
+    let answer = PairsAnswer::from(text::write_pairs(text, out));
     *place = answer.place;
     *bytes = answer.bytes;
     answer.refusal

@@ -1,12 +1,13 @@
 -- What a turn of the rounds does: an arc held, a rule held both ways, the rules held one after another.
---     cut_down, cut_not         the greater of a number and the floor, by the test
+--     CutOff x y, cut_off       y is the greater of x and the floor; `max` gives it
 --     arc_lowered, arc_kept     an arc held, where a number was lowered and where none was
---     rule_forth, rule_back     a rule held, where its first arc lowered a number, and else
+--     read_arc                  its weight, as the code forms it, is read back
+--     rule_held                 a rule held, from both its arcs
 --     rules_none                before the first rule
---     rules_turn                one rule more, by whether it lowered a number
+--     rules_turn                one rule more
 -- Assumes nothing.
 use mathlib.Core.Path.{◌≡◌, refl, sym, subst, ◌∙◌}
-use mathlib.Core.Bool.{Bool, true, false, true≢false}
+use mathlib.Core.Bool.{Bool, true, false, ◌||◌, true≢false}
 use mathlib.Core.Logic.{◌⊎◌, inl, inr, ⊎_elim}
 use mathlib.Core.List.{List}
 use Prim.Native.Nat.{ℕ, ◌+◌, ◌<◌}
@@ -18,18 +19,26 @@ use lib.Signed.{◌≤ℤ◌, ◌<ℤ◌, lt_z}
 use lib.ListN.{length, set}
 use lib.Seq.{get_or-set_same, get_or-set_other}
 use borrow.Author.Count.{below_more}
+use Rattle.std.proofs.Common.{cond}
+use Rattle.std.specs.Int.{int_max}
 use Rattle.integers.specs.Within.{Within}
 use Rattle.integers.proofs.Integer.{linear, sum}
-use Rattle.graphs.specs.Graph.{Graph, source, target, least, most}
-use Rattle.graphs.specs.Limits.{EndsKept}
+use Rattle.graphs.specs.Graph.{Graph, rules, source, target, least, most}
+use Rattle.graphs.specs.Limits.{EndsKept, Sized}
 use Rattle.separation.specs.Promise.{at}
-use Rattle.deadlines.specs.Parts.Rounds.{floor, Below, NumbersWithin, CutOff, ArcHeld, RuleHeld, RulesHeld}
+use Rattle.deadlines.specs.Parts.Rounds.{floor, Below, NumbersWithin, ArcHeld, RuleHeld, RulesHeld}
 
-pub cut_down : (x : ℤ) → lt_z x floor ≡ true → CutOff x floor
-cut_down x e = record { not_below = omega linear; floored = omega linear; one = inr refl }
+pub record CutOff (x y : ℤ) : Type 0 where
+  pub not_below : x ≤ℤ y
+  pub floored : floor ≤ℤ y
+  pub one : (y ≡ x) ⊎ (y ≡ floor)
 
-pub cut_not : (x : ℤ) → lt_z x floor ≡ false → CutOff x x
-cut_not x e = record { not_below = omega linear; floored = omega linear; one = inl refl }
+pub cut_off : (x : ℤ) → CutOff x (int_max x floor)
+cut_off x = by (lt_z floor x) refl
+  where
+    by : (above : Bool) → lt_z floor x ≡ above → CutOff x (cond above x floor)
+    by true e = record { not_below = omega linear; floored = omega linear; one = inl refl }
+    by false e = record { not_below = omega linear; floored = omega linear; one = inr refl }
 
 -- what is said of m at place b, and of the list elsewhere
 set_each : (Q : ℤ → Type 0) (xs : List ℤ) (b : ℕ) (m : ℤ) → b < length xs → (v : ℕ) → (v ≡ b → Q m) → ((v ≡ b → ⊥) → Q (at xs v)) → Q (at (set xs b m) v)
@@ -76,6 +85,10 @@ module _ (a b : ℕ) (w : ℤ) {m : ℤ} (xs : List ℤ) (cut : CutOff (at xs a 
         kept = λ _. refl;
       }
 
+-- its weight, as the code forms it, is read back
+pub read_arc : {a b : ℕ} {w x : ℤ} {xs ys : List ℤ} {f : Bool} → w ≡ x → ArcHeld a b w xs ys f → ArcHeld a b x xs ys f
+read_arc {a} {b} {xs = xs} {ys = ys} {f = f} e h = subst (λ (w : ℤ). ArcHeld a b w xs ys f) e h
+
 -- ---- a rule
 
 module _ {a b : ℕ} {d D : ℤ} {xs ys zs : List ℤ} {f k : Bool} (forth : ArcHeld a b D xs ys f) (back : ArcHeld b a (neg_ℤ d) ys zs k) where
@@ -99,11 +112,12 @@ module _ {a b : ℕ} {d D : ℤ} {xs ys zs : List ℤ} {f k : Bool} (forth : Arc
         kept = kept;
       }
 
-  pub rule_forth : f ≡ true → RuleHeld a b d D xs zs true
-  rule_forth e = both true (λ _. inl (omega (linear, forth.lowered e, back.not_raised b))) (λ t. absurd (true≢false t))
-
-  pub rule_back : f ≡ false → RuleHeld a b d D xs zs k
-  rule_back e = both k (λ t. inr (omega (linear, back.lowered t, forth.not_raised a))) (λ t. back.kept t ∙ forth.kept e)
+  pub rule_held : RuleHeld a b d D xs zs (f || k)
+  rule_held = by f refl
+    where
+      by : (x : Bool) → f ≡ x → RuleHeld a b d D xs zs (x || k)
+      by true e = both true (λ _. inl (omega (linear, forth.lowered e, back.not_raised b))) (λ t. absurd (true≢false t))
+      by false e = both k (λ t. inr (omega (linear, back.lowered t, forth.not_raised a))) (λ t. back.kept t ∙ forth.kept e)
 
 -- ---- the rules
 
@@ -119,7 +133,10 @@ rules_none within =
       kept = λ _. refl;
     }
 
-module _ {g : Graph} {i : ℕ} {xs ys zs : List ℤ} {c f : Bool} (ends : EndsKept g i) (before : RulesHeld g i xs ys c) (rule : RuleHeld (source g i) (target g i) (least g i) (most g i) ys zs f) where
+module _ {g : Graph} {i : ℕ} {xs ys zs : List ℤ} {c f : Bool} (sized : Sized 1000000 g) (known : i < rules g) (before : RulesHeld g i xs ys c) (rule : RuleHeld (source g i) (target g i) (least g i) (most g i) ys zs f) where
+  ends : EndsKept g i
+  ends = sized.ends i known
+
   still_below : (u : ℕ) (z : ℤ) → Below (at ys u) z → Below (at zs u) z
   still_below u z l = ⊎_elim (λ (e : at ys u ≤ℤ z). inl (omega (linear, rule.not_raised u))) (λ (e : at ys u ≤ℤ floor). inr (omega (linear, rule.not_raised u))) l
 
@@ -145,20 +162,14 @@ module _ {g : Graph} {i : ℕ} {xs ys zs : List ℤ} {c f : Bool} (ends : EndsKe
         kept = kept;
       }
 
-  rules_lowered : f ≡ true → RulesHeld g (i + 1) xs zs true
-  rules_lowered e = one_more true (λ _. which (rule.lowered e)) (λ t. absurd (true≢false t))
+  pub rules_turn : RulesHeld g (i + 1) xs zs (c || f)
+  rules_turn = by c f refl refl
     where
-      which : (at zs (target g i) <ℤ at ys (target g i)) ⊎ (at zs (source g i) <ℤ at ys (source g i)) → (v : ℕ) × (v < g.events) × (at zs v <ℤ at xs v)
-      which (inl l) = (target g i, ends.target_known, omega (linear, before.not_raised (target g i)))
-      which (inr l) = (source g i, ends.source_known, omega (linear, before.not_raised (source g i)))
+      now : (at zs (target g i) <ℤ at ys (target g i)) ⊎ (at zs (source g i) <ℤ at ys (source g i)) → (v : ℕ) × (v < g.events) × (at zs v <ℤ at xs v)
+      now (inl l) = (target g i, ends.target_known, omega (linear, before.not_raised (target g i)))
+      now (inr l) = (source g i, ends.source_known, omega (linear, before.not_raised (source g i)))
 
-  rules_as_before : f ≡ false → RulesHeld g (i + 1) xs zs c
-  rules_as_before e =
-      one_more c
-      (λ t. let (v, l, less) = before.lowered t in (v, l, omega (linear, less, rule.not_raised v)))
-      (λ t. rule.kept e ∙ before.kept t)
-
-  -- the turn, by whether it lowered a number
-  pub rules_turn : {r : Bool} → ((f ≡ true) × (r ≡ true)) ⊎ ((f ≡ false) × (r ≡ c)) → RulesHeld g (i + 1) xs zs r
-  rules_turn (inl (e, t)) = subst (RulesHeld g (i + 1) xs zs) (sym t) (rules_lowered e)
-  rules_turn (inr (e, t)) = subst (RulesHeld g (i + 1) xs zs) (sym t) (rules_as_before e)
+      by : (x y : Bool) → c ≡ x → f ≡ y → RulesHeld g (i + 1) xs zs (x || y)
+      by true y e h = one_more true (λ _. let (v, l, less) = before.lowered e in (v, l, omega (linear, less, rule.not_raised v))) (λ t. absurd (true≢false t))
+      by false true e h = one_more true (λ _. now (rule.lowered h)) (λ t. absurd (true≢false t))
+      by false false e h = one_more false (λ t. absurd (true≢false (sym t))) (λ _. rule.kept h ∙ before.kept e)

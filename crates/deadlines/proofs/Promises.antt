@@ -2,11 +2,15 @@
 --     hard_answered_exactly   a refusal is given exactly when its rule says
 --     hard_answer_unique      two answers to one question are equal
 --     hard_schedule_unique    two results of `hard_schedule` are equal, lists included
+--     hard_numbers_unique     what the numbers of a result may be is one
+--     hard_told_by_numbers    and they tell the result
+--     hard_result_unique, hard_schedule_result_unique    so two results of one question are equal, lists included
 --     refused_exactly         10 is given, place 0, exactly where the analysis refuses nothing and no times meet all rules
 --     ends_ordered            the least is never above the most
 --     within_ordinary         the most is never above the ordinary maximum, and the least never below the ordinary least
 --     hard_answers_near, hard_leasts_near    "the maxima differ by at most e × (n − 1)", and the least ones
 -- Assumes nothing.
+use Rattle.std.proofs.Common.{Result, Ok, Err, ap}
 use mathlib.Core.Path.{◌≡◌, sym, subst, ◌∙◌}
 use mathlib.Core.Logic.{◌↔◌}
 use mathlib.Core.List.{List}
@@ -26,7 +30,11 @@ use Rattle.hardtimes.specs.HardTimes.{NoHardTimes, hard_limit}
 use Rattle.hardtimes.proofs.Rules.{hard_not_above, delays_of, hard_executes}
 use Rattle.hardtimes.proofs.Nearness.{hard_near, hard_least_near}
 use Rattle.hardtimes.proofs.Unique.{hard_separation_unique, least_hard_unique, least_not_above, hard_times_unique, hard_delays_unique}
+use Rattle.refusals.specs.declared.Refusal.{Refusal}
+use Rattle.refusals.proofs.Unique.{same_refusal, some_number}
+use Rattle.deadlines.specs.declared.HardSeparated.{HardSeparated}
 use Rattle.deadlines.specs.declared.HardAnswer.{HardAnswer}
+use Rattle.deadlines.specs.Numbers.{hard_numbers}
 use Rattle.deadlines.specs.Promise.{HardVerdict, HardNothing, HardAnswered, HardWritten}
 use Rattle.deadlines.proofs.Verdicts.{hard_verdict_unique, refused_10, accepted_0}
 
@@ -99,6 +107,31 @@ hard_schedule_unique {g} {s} {times₀ = times₀} {delays₀ = delays₀} {time
     let same = hard_answer_unique pa pb in
     let w = subst (λ (x : HardAnswer). HardWritten g s x times₀ delays₀ times' delays') (sym same) wb in
     (same, times_unique pa wa w, delays_unique pa wa w)
+
+-- ---- results
+
+pub hard_numbers_unique : (x : Result HardSeparated Refusal) {a b : HardAnswer} → a ≡ hard_numbers x → b ≡ hard_numbers x → a ≡ b
+hard_numbers_unique x e f = e ∙ sym f
+
+-- the numbers of a result tell the result
+pub hard_told_by_numbers : (x y : Result HardSeparated Refusal) → hard_numbers x ≡ hard_numbers y → x ≡ y
+hard_told_by_numbers (Ok x) (Ok y) e =
+    ap Ok (λ i. record { least = (e i).least; most = (e i).most; source_depth = (e i).source_depth; target_depth = (e i).target_depth })
+hard_told_by_numbers (Ok x) (Err r) e = absurd (some_number r (λ i. (sym e i).refusal))
+hard_told_by_numbers (Err r) (Ok y) e = absurd (some_number r (λ i. (e i).refusal))
+hard_told_by_numbers (Err r) (Err q) e = ap Err (same_refusal r q (λ i. (e i).refusal) (λ i. (e i).place))
+
+pub hard_result_unique : {g : Graph} {s t : ℕ} {Short : Type 0} (x y : Result HardSeparated Refusal) →
+    HardAnswered g s t Short (hard_numbers x) →
+    HardAnswered g s t Short (hard_numbers y) →
+    x ≡ y
+hard_result_unique x y p q = hard_told_by_numbers x y (hard_answer_unique p q)
+
+pub hard_schedule_result_unique : {g : Graph} {s t : ℕ} {Short : Type 0} (x y : Result HardSeparated Refusal) {times₀ delays₀ times delays times' delays' : List ℤ} →
+    HardAnswered g s t Short (hard_numbers x) → HardWritten g s (hard_numbers x) times₀ delays₀ times delays →
+    HardAnswered g s t Short (hard_numbers y) → HardWritten g s (hard_numbers y) times₀ delays₀ times' delays' →
+    (x ≡ y) × (times ≡ times') × (delays ≡ delays')
+hard_schedule_result_unique x y p w q v = let same = hard_schedule_unique p w q v in (hard_told_by_numbers x y same.0, same.1, same.2)
 
 -- ---- what the promises say of answers
 

@@ -2,13 +2,12 @@
 --     Rounded g s k xs        what k rounds leave: no hard times are passed, and an event that at most k exact arcs reach has its latest gap
 --     RoundsDone g k old new  so it is of every s that the numbers started from
 --     rounds_none, rounds_more     before the first round, and after one more that changed something
---     rounds_settled          a round that changes nothing, where no number is cut off, leaves the latest gaps
---     rounds-cut              where one is, there are no hard times
---     rounds_late             nor where n rounds have changed something
+--     rounds_settled          a round that changes nothing leaves the latest gaps, or has cut off a number: then there are no hard times
+--     rounds_late             nor are there any where n rounds have changed something
 -- The idea. The latest gaps y against s, if there are hard times at all, are met exactly along arcs that lead from s to each event, n − 1 at most
 -- (`tight_within`). A round carries "at most y" one arc on. So after n − 1 rounds every number is at most y, and not below it, since no hard times are passed:
 -- another round can't lower one. Hard times lie above the floor by 01's sizes, so no number that is cut off is one of theirs. Assumes nothing.
-use mathlib.Core.Path.{◌≡◌, refl, sym, subst}
+use mathlib.Core.Path.{◌≡◌, sym}
 use mathlib.Core.Bool.{Bool, true, false, true≢false}
 use mathlib.Core.Logic.{⊎_elim}
 use mathlib.Core.List.{List}
@@ -16,7 +15,6 @@ use Prim.Native.Nat.{ℕ, suc, ◌+◌, ◌<◌, ◌≤◌}
 use native.Mathlib.Omega.{arith}
 use lib.IntN.{ℤ, pos, neg_ℤ, ◌+ℤ◌, ◌-ℤ◌}
 use lib.Signed.{◌≤ℤ◌, ◌<ℤ◌}
-use lib.ListN.{length}
 use Rattle.integers.proofs.Integer.{linear, sum, difference}
 use Rattle.graphs.specs.Graph.{Graph, rules, source, target, least, most}
 use Rattle.graphs.specs.Limits.{EventGraph}
@@ -43,7 +41,6 @@ pub record RoundsDone (g : Graph) (k : ℕ) (old new : List ℤ) : Type 0 where
   pub few : k ≤ g.events
   pub rounded : (s : ℕ) → Starts g s old → Rounded g s k new
   pub within : NumbersWithin g.events new
-  pub same_length : length new ≡ length old
 
 module _ {g : Graph} (eg : EventGraph 1000000 g) where
   -- hard times are above the floor
@@ -68,7 +65,6 @@ module _ {g : Graph} (eg : EventGraph 1000000 g) where
               late = λ e. absurd (let none : ⊥ = omega (arith, eg.sized.counts.some_event) in none);
             };
         within = within;
-        same_length = refl;
       }
     where
       at_start : (s : ℕ) → Starts g s xs → {y : ℕ → ℤ} → LatestGaps g s y → {j v : ℕ} → j ≤ 0 → Tight g s y j v → at xs v ≤ℤ y v
@@ -131,14 +127,13 @@ module _ {g : Graph} (eg : EventGraph 1000000 g) where
           late = λ e. no_more changed (omega arith);
         }
 
-  module _ {k : ℕ} {start xs ys : List ℤ} {c : Bool} (done : RoundsDone g k start xs) (round : RulesHeld g (rules g) xs ys c) (long : length ys ≡ length xs) where
+  module _ {k : ℕ} {start xs ys : List ℤ} {c : Bool} (done : RoundsDone g k start xs) (round : RulesHeld g (rules g) xs ys c) where
     pub rounds_more : c ≡ true → k < g.events → RoundsDone g (k + 1) start ys
     rounds_more changed l =
         record {
           few = omega arith;
           rounded = λ s starts. rounded_more (done.rounded s starts) round changed;
           within = round.within;
-          same_length = subst (λ (m : ℕ). length ys ≡ m) done.same_length long;
         }
 
     -- nothing changed: every arc is met where no number is cut off

@@ -2,25 +2,27 @@
 --     hard_verdict_unique     a question has one verdict
 --     unreached_first         an event that isn't reached is refused with 6, whether there are hard times or not
 --     local_room              lists of 1,024 and 4,096 places are too short only where a count is outside
---     short_refused           a list that is too short is refused
---     handed_on               a refusal of the analysis is given
+--     counts_refused          a refusal of the counts is given
+--     short_refused           so is a list that is too short, where the counts are kept
+--     handed_on               and a refusal of the analysis
 --     hard_short              "too short" may be said in two ways
 --     refused_10, accepted_0  where the analysis refuses nothing, 10 is given where there are no hard times, and nothing is refused where there are some
 -- Assumes nothing.
 use mathlib.Core.Path.{◌≡◌}
 use mathlib.Core.Logic.{inl, inr}
-use mathlib.Core.List.{List, [], ◌∷◌}
+use mathlib.Core.List.{List, [], ◌∷◌, ◌++◌}
 use Prim.Native.Nat.{ℕ, ◌<◌}
 use native.Mathlib.Omega.{arith}
 use lib.IntN.{ℤ}
 use lib.ListN.{length}
-use Rattle.verdicts.specs.Verdict.{check, AtZero, Lowest, FirstThen, FirstOf, given, passed}
-use Rattle.verdicts.proofs.Verdicts.{NoneApplies, at_zero, at_zero_unique, one_verdict, then_unique, passed_all, then_more, front_given, accepted_none, none_accepted, then_alike}
+use Rattle.verdicts.specs.Verdict.{Check, check, AtZero, Lowest, FirstThen, FirstOf, given, passed}
+use Rattle.verdicts.proofs.Verdicts.{NoneApplies, at_zero, at_zero_unique, holds_not, one_verdict, then_unique, passed_all, then_more, then_more_after, front_given, none_accepted, more_alike, alike_refl, then_alike}
 use Rattle.graphs.specs.Graph.{Graph}
 use Rattle.graphs.specs.Path.{HasCycle}
-use Rattle.graphs.specs.Limits.{EventGraph}
-use Rattle.graphs.specs.Refusal.{many_events, many_rules, Unreached, question_checks, path_checks}
-use Rattle.graphs.proofs.Refusals.{question_places, path_places, question_none, path_none, cycle_misses, short_alike}
+use Rattle.graphs.specs.Limits.{CountsKept, EventGraph}
+use Rattle.graphs.specs.Refusal.{many_events, many_rules, MissingEnd, Unreached, count_checks, rule_checks, question_checks, path_checks}
+use Rattle.graphs.proofs.Refusals.{question_places, path_places, events_miss, rules_miss, question_none, path_none, cycle_misses, short_alike}
+use Rattle.refusals.proofs.Counts.{counts_given}
 use Rattle.hardtimes.specs.HardTimes.{HardTimes, NoHardTimes}
 use Rattle.separation.specs.Promise.{ShortLists, Verdict, PathVerdict}
 use Rattle.deadlines.specs.Promise.{HardVerdict}
@@ -41,24 +43,30 @@ hard_verdict_unique {g} {s} {t} {Short} {i} {p} {j} {q} v w =
 
 -- a list of 1,024 or 4,096 places is too short only where 21 or 22 is given
 module _ {g : Graph} (times delays : List ℤ) (long : length times ≡ 1024) (wide : length delays ≡ 4096) where
-  pub local_room : {s t j p : ℕ} → Verdict g s t (ShortLists g times delays) j p → Verdict g s t ⊥ j p
-  local_room (given events) = given events
-  local_room (passed few (given rules)) = passed few (given rules)
-  local_room (passed few (passed kept (given short))) = absurd (never short.holds)
-    where
-      never : ShortLists g times delays → ⊥
-      never (inl l) = few 0 (at_zero (many_events (omega (arith, long))))
-      never (inr l) = kept 0 (at_zero (many_rules (omega (arith, wide))))
-  local_room (passed few (passed kept (passed roomy rest))) = passed few (passed kept (passed (λ p a. a.holds) rest))
+  never : NoneApplies (count_checks 1024 4096 g) → ShortLists g times delays → ⊥
+  never none (inl l) = holds_not none.0 (many_events (omega (arith, long)))
+  never none (inr l) = holds_not none.1.0 (many_rules (omega (arith, wide)))
 
-pub short_refused : {g : Graph} {s t j p : ℕ} {Short : Type 0} → Short → Verdict g s t Short j p → j ≡ 0 → ⊥
-short_refused {g} {s} {t} {j} {p} {Short} short v e =
-    let (none, rest) = accepted_none (question_checks g s t Short) (PathVerdict g) (omega arith, (omega arith, (omega arith, (omega arith, (omega arith, (omega arith, tt)))))) j p e v in
-    none.1.1.0 0 (at_zero short)
+  pub local_room : {s t j p : ℕ} → Verdict g s t (ShortLists g times delays) j p → Verdict g s t ⊥ j p
+  local_room {s} {t} {j} {p} =
+      then_more_after (count_checks 1024 4096 g) (first (ShortLists g times delays)) (first ⊥) j p
+      (λ none. then_alike (more_alike (λ q a. absurd (never none a.holds)) (λ q a. absurd a.holds) (alike_refl after)) (PathVerdict g) j p)
+    where
+      after : List Check
+      after = rule_checks 1000000 g ++ (check 4 (MissingEnd g s t) ∷ [])
+
+      first : Type 0 → ℕ → ℕ → Type 0
+      first Short = FirstThen (check 23 (AtZero Short) ∷ after) (PathVerdict g)
 
 module _ {g : Graph} {s t : ℕ} where
   pub hard_short : {A B : Type 0} → (A → B) → (B → A) → {j p : ℕ} → HardVerdict g s t A j p → HardVerdict g s t B j p
   hard_short f h {j} {p} v = then_alike (short_alike f h) (hard_rest g) j p v
+
+  pub counts_refused : {Short : Type 0} {j p : ℕ} → (j ≡ 0 → ⊥) → FirstOf (count_checks 1024 4096 g) j p → HardVerdict g s t Short j p
+  counts_refused some v = counts_given _ some v
+
+  pub short_refused : {Short : Type 0} → CountsKept g → Short → HardVerdict g s t Short 23 0
+  short_refused counts short = passed (events_miss counts) (passed (rules_miss counts) (given (at_zero short)))
 
   -- ---- after the analysis
 

@@ -1,10 +1,10 @@
 -- What the lent lists hold.
 --     lists_refused     a refusal leaves both lists as they were
---     lists_short       so does one that the analysis gives for lists that are too short
 --     rule_timed        the times that are written are small enough to subtract
 --     lists_written     what `write_gaps` and `write_differences` wrote is the schedule
 -- Assumes nothing.
-use mathlib.Core.Path.{◌≡◌, refl, sym, subst, ◌∙◌}
+use Rattle.std.proofs.Common.{Err}
+use mathlib.Core.Path.{◌≡◌, refl, sym, subst}
 use mathlib.Core.List.{List}
 use Prim.Native.Nat.{ℕ, ◌<◌, ◌≤◌}
 use native.Mathlib.Omega.{arith}
@@ -16,35 +16,25 @@ use Rattle.sequences.specs.Filled.{Filled}
 use Rattle.graphs.specs.Graph.{Graph, graph_of}
 use Rattle.graphs.proofs.Limits.{sound_of}
 use Rattle.hardtimes.proofs.Gaps.{gap_schedule}
-use Rattle.separation.specs.declared.Answer.{Answer}
-use Rattle.separation.specs.Promise.{Written, at}
+use Rattle.refusals.specs.declared.Refusal.{Refusal}
+use Rattle.refusals.proofs.Unique.{some_number}
+use Rattle.separation.specs.Promise.{at}
 use Rattle.deadlines.specs.declared.HardAnswer.{HardAnswer}
+use Rattle.deadlines.specs.Numbers.{hard_numbers}
 use Rattle.deadlines.specs.Promise.{HardWritten}
 use Rattle.deadlines.specs.Parts.Lists.{GapAt, DifferenceAt, RuleTimed}
 use Rattle.deadlines.specs.Parts.Gaps.{EndsAnswered}
 
-pub lists_refused : {g : Graph} {s : ℕ} {a : HardAnswer} {times delays : List ℤ} → (a.refusal ≡ 0 → ⊥) → HardWritten g s a times delays times delays
-lists_refused n =
+pub lists_refused : {g : Graph} {s : ℕ} (r : Refusal) {times delays : List ℤ} → HardWritten g s (hard_numbers (Err r)) times delays times delays
+lists_refused r =
     record {
-      schedule = λ e. absurd (n e);
+      schedule = λ e. absurd (some_number r e);
       times_beyond = λ e. refl;
       delays_beyond = λ e. refl;
       times_kept = λ m. refl;
       delays_kept = λ m. refl;
       times_length = refl;
       delays_length = refl;
-    }
-
-pub lists_short : {g : Graph} {s : ℕ} {a : Answer} {r : HardAnswer} {times₀ delays₀ times delays : List ℤ} → (a.refusal ≡ 0 → ⊥) → r.refusal ≡ a.refusal → Written g s a times₀ delays₀ times delays → HardWritten g s r times₀ delays₀ times delays
-lists_short some same w =
-    record {
-      schedule = λ e. absurd (some (sym same ∙ e));
-      times_beyond = λ e. absurd (some (sym same ∙ e));
-      delays_beyond = λ e. absurd (some (sym same ∙ e));
-      times_kept = λ _. w.times_kept some;
-      delays_kept = λ _. w.delays_kept some;
-      times_length = w.times_length;
-      delays_length = w.delays_length;
     }
 
 module _ {n : ℕ} {ss ts : List ℕ} {ds Ds : List ℤ} {s t : ℕ} {a : HardAnswer} {latest times₀ times : List ℤ} (ends : EndsAnswered (graph_of n ss ts ds Ds) s t latest a) (accepted : a.refusal ≡ 0) (wt : Filled (pos 0) n (GapAt latest 0) times₀ times) where

@@ -1,13 +1,14 @@
 // Rounds with hard deadlines: the greatest and the least separation of two events over all times at which every rule binds on its own.
-//     hard_separation    both ends and both depths, or the refusal with its place
+//     hard_separation    both ends and both depths, or the refusal
 //     hard_schedule      the same, with the whole latest schedule written into two lent lists
 // No caller is trusted: every list, length and number gets an answer. The promises are in specs/Promise.antt.
 #![tactic(auto)]
 
 ghost use Rattle.std.specs.Prelude.{◌≡◌};
-ghost use Rattle.graphs.specs.Graph.{graph_of};
+ghost use Rattle.graphs.specs.Lists.{graph_in};
 ghost use Rattle.separation.specs.Promise.{ShortLists};
-ghost use Rattle.deadlines.specs.Promise.{HardNothing, HardAnswered, HardWritten};
+ghost use Rattle.deadlines.specs.Numbers.{hard_numbers};
+ghost use Rattle.deadlines.specs.Promise.{HardAnswered, HardWritten};
 
 mod gaps;
 mod lists;
@@ -15,9 +16,25 @@ mod rounds;
 
 use crate::gaps::both_ends;
 use crate::lists::{write_differences, write_gaps};
+use graphs::GraphLists;
+use refusals::Refusal;
 
-// The answer to a question under hard deadlines. `refusal` is 0, or the number of the tables of documents 01 and 02, with its place.
-#[derive(Clone, Copy)]
+const MAX_EVENTS: usize = 1024;
+
+const MAX_RULES: usize = 4096;
+
+// What a question under hard deadlines is answered where nothing is refused: the least and the greatest separation, and the depths of s and t.
+#[derive(Clone, Copy, Debug, PartialEq, Eq)]
+pub struct HardSeparated {
+    pub least: i64,
+    pub most: i64,
+    pub source_depth: usize,
+    pub target_depth: usize,
+}
+
+// An answer in numbers, for callers that take no `Result`. `refusal` is 0, or the refusal's number, with its place; refused, all values are 0.
+// Kept: the number of a refusal beside the values: the C interface.
+#[derive(Clone, Copy, Debug, PartialEq, Eq)]
 pub struct HardAnswer {
     pub refusal: usize,
     pub place: usize,
@@ -27,62 +44,58 @@ pub struct HardAnswer {
     pub target_depth: usize,
 }
 
-// Refusal `number` at `place`: both ends 0, depths 0.
-pub(crate) fn refused(number: usize, place: usize) -> HardAnswer
-    ensures { (result.refusal ≡ number) × (result.place ≡ place) × HardNothing result }
-{
-    HardAnswer {
-        refusal: number,
-        place,
-        least: 0,
-        most: 0,
-        source_depth: 0,
-        target_depth: 0,
+impl From<Result<HardSeparated, Refusal>> for HardAnswer {
+    ghost from_gives = { λ answer numbers. numbers ≡ hard_numbers answer };
+
+    fn from(answer: Result<HardSeparated, Refusal>) -> HardAnswer {
+        match answer {
+            Ok(found) => HardAnswer {
+                refusal: 0,
+                place: 0,
+                least: found.least,
+                most: found.most,
+                source_depth: found.source_depth,
+                target_depth: found.target_depth,
+            },
+            Err(refusal) => HardAnswer {
+                refusal: refusal.number(),
+                place: refusal.place(),
+                least: 0,
+                most: 0,
+                source_depth: 0,
+                target_depth: 0,
+            },
+        }
     }
 }
 
-// The least and the greatest t(t) − t(s) over all times that meet every rule of the graph with n events and these rules, and the depths of s and t.
-pub fn hard_separation(
-    n: usize,
-    sources: &[usize],
-    targets: &[usize],
-    leasts: &[i64],
-    mosts: &[i64],
-    s: usize,
-    t: usize,
-) -> HardAnswer
-    ensures { HardAnswered (graph_of n sources.now targets.now leasts.now mosts.now) s t ⊥ result }
+// The least and the greatest t(t) − t(s) over all times that meet every rule of the graph, and the depths of s and t.
+pub fn hard_separation(lists: &GraphLists<'_>, s: usize, t: usize) -> Result<HardSeparated, Refusal>
+    ensures { HardAnswered (graph_in lists.now) s t ⊥ (hard_numbers result) }
 {
-    let mut latest = [0i64; 1024];
-    both_ends(n, sources, targets, leasts, mosts, s, t, &mut latest)
+    let mut latest = [0i64; MAX_EVENTS];
+    both_ends(lists, s, t, &mut latest)
 }
 
 // The same, and the schedule that has every event as late against s as hard deadlines allow: the times of the n events and the delays of the rules. Places
 // beyond keep what they held; refused, both lists do.
 pub fn hard_schedule(
-    n: usize,
-    sources: &[usize],
-    targets: &[usize],
-    leasts: &[i64],
-    mosts: &[i64],
+    lists: &GraphLists<'_>,
     s: usize,
     t: usize,
     times: &mut [i64],
     delays: &mut [i64],
-) -> HardAnswer
-    ensures hard_answered { HardAnswered (graph_of n sources.now targets.now leasts.now mosts.now) s t (ShortLists (graph_of n sources.now targets.now leasts.now mosts.now) times.old delays.old) result }
-    ensures hard_written { HardWritten (graph_of n sources.now targets.now leasts.now mosts.now) s result times.old delays.old times.new delays.new }
+) -> Result<HardSeparated, Refusal>
+    ensures hard_answered { HardAnswered (graph_in lists.now) s t (ShortLists (graph_in lists.now) times.old delays.old) (hard_numbers result) }
+    ensures hard_written { HardWritten (graph_in lists.now) s (hard_numbers result) times.old delays.old times.new delays.new }
 {
-    if times.len() < n || delays.len() < sources.len() {
-        let short = separation::schedule(n, sources, targets, leasts, mosts, s, t, times, delays);
-        return refused(short.refusal, short.place);
+    refusals::check_counts(lists, MAX_EVENTS, MAX_RULES)?;
+    if times.len() < lists.events || delays.len() < lists.sources.len() {
+        return Err(Refusal::ShortList);
     }
-    let mut latest = [0i64; 1024];
-    let answer = both_ends(n, sources, targets, leasts, mosts, s, t, &mut latest);
-    if answer.refusal != 0 {
-        return answer;
-    }
-    write_gaps(n, 0, &latest, times);
-    write_differences(sources, targets, times, delays);
-    answer
+    let mut latest = [0i64; MAX_EVENTS];
+    let found = both_ends(lists, s, t, &mut latest)?;
+    write_gaps(lists.events, 0, &latest, times);
+    write_differences(lists.sources, lists.targets, times, delays);
+    Ok(found)
 }

@@ -11,10 +11,8 @@ pub(crate) fn write_gaps(n: usize, s: usize, numbers: &[i64], gaps: &mut [i64])
     ensures { Filled (pos 0) n (GapAt numbers.now s) gaps.old gaps.new }
 {
     let base = numbers[s];
-    let mut v = 0;
-    while v < n {
+    for v in 0..n {
         gaps[v] = numbers[v] - base;
-        v += 1;
     }
 }
 
@@ -29,11 +27,7 @@ pub(crate) fn write_differences(
     requires timed { (i : ℕ) → i < length sources.now → RuleTimed sources.now targets.now times.now i }
     ensures { Filled (pos 0) (length sources.now) (DifferenceAt sources.now targets.now times.now) delays.old delays.new }
 {
-    let mut i = 0;
-    while i < sources.len() {
-        let source = sources[i];
-        let target = targets[i];
-        delays[i] = times[target] - times[source];
-        i += 1;
+    for i in 0..sources.len() {
+        delays[i] = times[targets[i]] - times[sources[i]];
     }
 }

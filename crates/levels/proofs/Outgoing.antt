@@ -21,8 +21,7 @@ use Rattle.processes.specs.Process.{templates, source, target, least, most, mark
 use Rattle.processes.proofs.Numbers.{Place}
 use Rattle.processes.proofs.Occurrences.{event_same, numbers_apart, never_root}
 use Rattle.levels.specs.Parts.Turns.{ahead, start_ahead}
-use Rattle.levels.proofs.Unfolded.{instance_unique, rule_at_place}
-use Rattle.levels.proofs.Folds.{place_of, rule_enters}
+use Rattle.processes.proofs.Exactly.{instance_unique, place_of, rule_at_place, rule_enters}
 use Rattle.levels.proofs.Sound.{Fit, template_rule}
 use Rattle.processes.specs.Unfolding.{RuleAt, Unfolds}
 
@@ -96,7 +95,7 @@ module _ {g : ProcessGraph} {K : ℕ} {graph : Graph} (fit : Fit g) (unfolds : U
       → ByTemplates g graph (occurrence g k u).0 (λ j. source g j ≡ u) (ahead g k) (least g) (most g)
   occurrence_rules k u hu =
       record {
-        out = λ i l e. leaving i e (place_of unfolds fit.each.ends i l);
+        out = λ i l e. leaving i e (place_of unfolds i l);
         back = λ j l from. given j l from (dec_lt (k + mark g j) K);
       }
     where
@@ -109,7 +108,7 @@ module _ {g : ProcessGraph} {K : ℕ} {graph : Graph} (fit : Fit g) (unfolds : U
             p.within_below,
             from,
             record {
-              enters = rule_enters unfolds fit.each.ends i p ∙ ap (λ (x : ℕ). (occurrence g x (target g p.within)).0) row_is;
+              enters = rule_enters unfolds i p ∙ ap (λ (x : ℕ). (occurrence g x (target g p.within)).0) row_is;
               least_is = least_is;
               most_is = most_is;
             },
@@ -133,7 +132,7 @@ module _ {g : ProcessGraph} {K : ℕ} {graph : Graph} (fit : Fit g) (unfolds : U
   pub root_rules : 0 < K
       → ByTemplates g graph 0 (λ j. mark g j ≡ 1) (start_ahead g) (start_least g) (start_most g)
   root_rules some =
-      record { out = λ i l e. leaving i e (place_of unfolds fit.each.ends i l); back = λ j l m. inl (rule_at 0 j some l (start m refl)) }
+      record { out = λ i l e. leaving i e (place_of unfolds i l); back = λ j l m. inl (rule_at 0 j some l (start m refl)) }
     where
       leaving : (i : ℕ) → rule.source graph i ≡ 0 → Place (templates g) K i
           → OfTemplate g graph i (λ j. mark g j ≡ 1) (start_ahead g) (start_least g) (start_most g)
@@ -144,7 +143,7 @@ module _ {g : ProcessGraph} {K : ℕ} {graph : Graph} (fit : Fit g) (unfolds : U
             p.within_below,
             marked,
             record {
-              enters = rule_enters unfolds fit.each.ends i p ∙ ap (λ (x : ℕ). (occurrence g x (target g p.within)).0) row_is;
+              enters = rule_enters unfolds i p ∙ ap (λ (x : ℕ). (occurrence g x (target g p.within)).0) row_is;
               least_is = least_is;
               most_is = most_is;
             },

@@ -24,8 +24,8 @@ use Rattle.processes.specs.Ways.{MarkZeroCycle}
 use Rattle.processes.proofs.Numbers.{place_below}
 use Rattle.processes.proofs.Occurrences.{OneOccurrence, occurrence_below, occurrence_found}
 use Rattle.processes.proofs.Refusals.{TemplatesKept}
-use Rattle.levels.proofs.Unfolded.{rule_at_place}
-use Rattle.levels.proofs.Folds.{place_of, instance_enters, cycle_folds}
+use Rattle.processes.proofs.Exactly.{instance_enters, place_of, rule_at_place}
+use Rattle.levels.proofs.Folds.{folds_to_cycle}
 use Rattle.processes.specs.Unfolding.{RuleAt, Unfolds}
 
 pub record Fit (g : ProcessGraph) : Type 0 where
@@ -67,7 +67,7 @@ instance_sized {g} {K} {k} {j} fit below l (start m first) =
 module _ {g : ProcessGraph} {K : ℕ} {graph : Graph} (fit : Fit g) (unfolds : Unfolds g K graph) where
   rule_sized : (i : ℕ) → i < rules graph → (EndsKept graph i) × (DelaysKept 1000000 graph i)
   rule_sized i l =
-      let p = place_of unfolds fit.each.ends i l in
+      let p = place_of unfolds i l in
       let r = rule_at_place unfolds i p in
       let s = instance_sized fit p.row_below p.within_below r.instance in (
         record {
@@ -120,7 +120,7 @@ module _ {g : ProcessGraph} {K : ℕ} {graph : Graph} (fit : Fit g) (unfolds : U
 
   pub unfolded_sound : SoundGraph graph
   unfolded_sound =
-      let no_cycle : HasCycle graph → ⊥ = λ c. fit.no_cycle (cycle_folds unfolds fit.each.ends c) in
+      let no_cycle : HasCycle graph → ⊥ = λ c. fit.no_cycle (folds_to_cycle unfolds fit.each.ends c) in
       let (rank, higher, below) = rank_of graph unfolded_ends no_cycle in
       record {
         some_event = omega (arith, unfolds.event_count);

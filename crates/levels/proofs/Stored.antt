@@ -18,13 +18,13 @@ use Rattle.graphs.specs.Graph.{Graph}
 use Rattle.sets.specs.Limit.{Limit, unlimited}
 use Rattle.sets.specs.Pair.{Pair}
 use Rattle.sets.specs.Set.{pass_nothing}
-use Rattle.sets.specs.Held.{limit, pairs_of, held}
+use Rattle.sets.specs.Held.{pairs_of, held}
 use Rattle.sets.specs.declared.PrunedSet.{PrunedSet}
 use Rattle.sets.proofs.Holding.{pairs_back}
 use Rattle.paths.specs.Parts.Solved.{Solved}
 use Rattle.processes.specs.declared.Event.{Event}
 use Rattle.processes.specs.Process.{occurrence, ProcessGraph}
-use Rattle.levels.specs.Parts.Sweep.{caps_of, sets_of, Ranked, Whole, LevelHolds, Swept}
+use Rattle.levels.specs.Parts.Sweep.{limit, caps_of, sets_of, Ranked, Whole, LevelHolds, Swept}
 use Rattle.levels.proofs.Sound.{Fit}
 use Rattle.levels.proofs.Sweeps.{levels_above, swept_more}
 use Rattle.processes.specs.Unfolding.{Unfolds}

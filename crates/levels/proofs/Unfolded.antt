@@ -2,9 +2,7 @@
 --     listed_length, listed_at     the list f 0, …, f (n − 1) has n entries, and entry i is f i
 --     row_found                    rule k × T + j stands in row k, at place j
 --     full_unfolds                 the graph unfolded in full unfolds, where the marks are 0 or 1
---     SameRule, instance_unique    a template has one instance at one k
---     rule_at_place                rule i of an unfolding is the instance of a template at a k below K
---     unfolding_unique             two graphs that unfold one process graph are equal
+--     unfolding_unique             two graphs that unfold one process graph are equal: the crate processes proves it, proofs/Unique.antt
 -- Assumes nothing.
 use mathlib.Core.Path.{◌≡◌, refl, sym, ap, subst, ◌∙◌}
 use mathlib.Core.Logic.{◌⊎◌, inl, inr}
@@ -13,12 +11,12 @@ use native.Mathlib.Nat.{not-suc-le-zero, le_of_suc-le-suc, mod-lt, div-add-mod'}
 use native.Mathlib.Omega.{arith}
 use lib.IntN.{ℤ, pos}
 use lib.ListN.{length, get_or}
-use lib.Seq.{ext_get_or}
 use Rattle.graphs.specs.Graph as rule
 use Rattle.graphs.specs.Graph.{Graph}
 use Rattle.processes.specs.Parts.Checks.{MarkKept}
 use Rattle.processes.specs.Process.{templates, source, target, least, most, mark, occurrence, Node, root, at, number, ProcessGraph, start_least, start_most, Instance, together, onward, start}
-use Rattle.processes.proofs.Numbers.{places_apart, place_below, Place, place_found}
+use Rattle.processes.proofs.Numbers.{places_apart, place_below}
+use Rattle.processes.proofs.Unique.{graphs_agree}
 use Rattle.levels.specs.Full.{listed, source_at, delay_at, source_of, target_of, least_of, most_of, full_unfolding}
 use Rattle.processes.specs.Unfolding.{RuleAt, Unfolds}
 
@@ -122,64 +120,5 @@ module _ (g : ProcessGraph) (K : ℕ) (marks : (j : ℕ) → j < templates g →
 
 -- ---- there is no other
 
-pub record SameRule (u u' v v' : Node) (d d' D D' : ℤ) : Type 0 where
-  pub from : u ≡ u'
-  pub to : v ≡ v'
-  pub least_delay : d ≡ d'
-  pub most_delay : D ≡ D'
-
-pub instance_unique : {g : ProcessGraph} {k j : ℕ} {u u' v v' : Node} {d d' D D' : ℤ}
-    → Instance g k j u v d D → Instance g k j u' v' d' D' → SameRule u u' v v' d d' D D'
-instance_unique (together m) (together m') = record { from = refl; to = refl; least_delay = refl; most_delay = refl }
-instance_unique (together m) (onward b m' e) = absurd (let no : ⊥ = omega arith in no)
-instance_unique (together m) (start m' e) = absurd (let no : ⊥ = omega arith in no)
-instance_unique (onward b m e) (together m') = absurd (let no : ⊥ = omega arith in no)
-instance_unique {g} {k} {j} (onward b m e) (onward b' m' e') =
-    let same : b ≡ b' = omega arith in
-    record { from = ap (λ (x : ℕ). at (occurrence g x (source g j))) same; to = refl; least_delay = refl; most_delay = refl }
-instance_unique (onward b m e) (start m' e') = absurd (let no : ⊥ = omega arith in no)
-instance_unique (start m e) (together m') = absurd (let no : ⊥ = omega arith in no)
-instance_unique (start m e) (onward b m' e') = absurd (let no : ⊥ = omega arith in no)
-instance_unique (start m e) (start m' e') = record { from = refl; to = refl; least_delay = refl; most_delay = refl }
-
-pub rule_at_place : {g : ProcessGraph} {K : ℕ} {graph : Graph} → Unfolds g K graph
-    → (i : ℕ) (p : Place (templates g) K i) → RuleAt g p.row p.within graph i
-rule_at_place {g} {K} {graph} unfolds i p =
-    subst (RuleAt g p.row p.within graph) (sym p.there) (unfolds.each p.row p.within p.row_below p.within_below)
-
-module _ {g : ProcessGraph} {K : ℕ} {graph graph' : Graph} (x : Unfolds g K graph) (y : Unfolds g K graph') where
-  record SameEntries (i : ℕ) : Type 0 where
-    pub source_same : rule.source graph i ≡ rule.source graph' i
-    pub target_same : rule.target graph i ≡ rule.target graph' i
-    pub least_same : rule.least graph i ≡ rule.least graph' i
-    pub most_same : rule.most graph i ≡ rule.most graph' i
-
-  entries_same : (i : ℕ) → i < templates g * K → SameEntries i
-  entries_same i l =
-      let p = place_found (templates g) K i l in
-      let r = rule_at_place x i p in
-      let r' = rule_at_place y i p in
-      let same = instance_unique r.instance r'.instance in
-      record {
-        source_same = r.from_number ∙ ap number same.from ∙ sym r'.from_number;
-        target_same = r.to_number ∙ ap number same.to ∙ sym r'.to_number;
-        least_same = same.least_delay;
-        most_same = same.most_delay;
-      }
-
-  pub unfolding_unique : graph ≡ graph'
-  unfolding_unique =
-      let sources : graph.sources ≡ graph'.sources =
-      ext_get_or 0 graph.sources graph'.sources (x.sources_count ∙ sym y.sources_count)
-      (λ i l. (entries_same i (omega (arith, x.sources_count))).source_same) in
-      let targets : graph.targets ≡ graph'.targets =
-      ext_get_or 0 graph.targets graph'.targets (x.targets_count ∙ sym y.targets_count)
-      (λ i l. (entries_same i (omega (arith, x.targets_count))).target_same) in
-      let leasts : graph.leasts ≡ graph'.leasts =
-      ext_get_or (pos 0) graph.leasts graph'.leasts (x.leasts_count ∙ sym y.leasts_count)
-      (λ i l. (entries_same i (omega (arith, x.leasts_count))).least_same) in
-      let mosts : graph.mosts ≡ graph'.mosts =
-      ext_get_or (pos 0) graph.mosts graph'.mosts (x.mosts_count ∙ sym y.mosts_count)
-      (λ i l. (entries_same i (omega (arith, x.mosts_count))).most_same) in
-      let events : graph.events ≡ graph'.events = x.event_count ∙ sym y.event_count in
-      λ i. record { events = events i; sources = sources i; targets = targets i; leasts = leasts i; mosts = mosts i }
+pub unfolding_unique : {g : ProcessGraph} {K : ℕ} {graph graph' : Graph} → Unfolds g K graph → Unfolds g K graph' → graph ≡ graph'
+unfolding_unique = graphs_agree

@@ -1,26 +1,21 @@
 -- Laws of what the writers leave in a lent list of bytes.
---     appended_none, appended_one    nothing, or one byte, written
+--     appended_none                  nothing written
 --     appended_more                  bytes, and then others after them
 --     appended_length                the list keeps its length
---     appended_next, room_left       the bytes of a list written in turn; there is room for the next
 --     put_fits, put_full             written where there is room; else nothing
 --     put_length                     the list keeps its length
 -- Assumes nothing.
 use mathlib.Core.Path.{◌≡◌, refl, ap, sym, ◌∙◌}
-use mathlib.Core.List.{List, [], ◌∷◌, ◌++◌, append_assoc}
+use mathlib.Core.List.{List, [], ◌++◌, append_assoc}
 use Prim.Native.Nat.{ℕ, ◌+◌, ◌<◌, ◌≤◌}
-use native.Mathlib.Numerals.{add-one}
 use native.Mathlib.Decide.{dec_lt}
 use native.Mathlib.Omega.{arith}
-use lib.ListN.{length, take, drop, set, get_or, length-append, length-drop, take-append-drop}
-use lib.Seq.{length-take-le, take_at, drop_at, drop-drop, set_split, take-suc}
+use lib.ListN.{length, take, drop, length-append, length-drop, take-append-drop}
+use lib.Seq.{length-take-le, take_at, drop_at, drop-drop}
 use Rattle.numerals.specs.Appending.{Appended, Put}
 
 pub appended_none : (o : List ℕ) (a : ℕ) → a ≤ length o → Appended o a [] o a
 appended_none o a h = record { after = omega arith; inside = h; bytes = sym (take-append-drop a o) }
-
-pub appended_one : (o : List ℕ) (a x : ℕ) → a < length o → Appended o a (x ∷ []) (set o a x) (a + 1)
-appended_one o a x h = record { after = refl; inside = omega arith; bytes = rw (add-one a) (set_split o a x h) }
 
 -- the list up to where the writing stopped
 front_length : {o : List ℕ} {a : ℕ} {bs m : List ℕ} {b : ℕ} → Appended o a bs m b → length (take a o ++ bs) ≡ b
@@ -55,12 +50,6 @@ appended_more {o} {a} {bs} {m} {b} {cs} {p} {c} v w =
 
     together : p ≡ take a o ++ ((bs ++ cs) ++ drop c o)
     together = w.bytes ∙ rw (front_kept v, behind) (simp append_assoc)
-
-pub appended_next : {o : List ℕ} {a : ℕ} (bs : List ℕ) {m : List ℕ} {b i : ℕ} {p : List ℕ} {c : ℕ} → i < length bs → Appended o a (take i bs) m b → Appended m b (get_or bs i 0 ∷ []) p c → Appended o a (take (i + 1) bs) p c
-appended_next bs {i = i} l v w = rw (add-one i, take-suc bs i 0 l) (appended_more v w)
-
-pub room_left : {o : List ℕ} {a : ℕ} (bs : List ℕ) {m : List ℕ} {b i : ℕ} → i < length bs → a + length bs ≤ length o → Appended o a (take i bs) m b → b < length m
-room_left bs {i = i} l room w = omega (arith, appended_length w, w.after, length-take-le i bs (let k : i ≤ length bs = omega arith in k))
 
 -- ---- where there may be no room
 

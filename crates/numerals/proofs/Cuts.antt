@@ -3,7 +3,7 @@
 --     OneCut F            a field of kind F that stops the digits is cut in one way, and so says one thing
 --     number_cut, field_cut      event numbers and delays are so
 --     no_minus            an event number begins with no minus
---     digits_below, number_below     seven digits write a number below 10,000,000, so an event number is
+--     digits_below, number_below     n digits write a number below 10 ^ n, so an event number is below 10,000,000
 -- Assumes nothing.
 use mathlib.Core.Path.{◌≡◌, sym, ◌∙◌, ap}
 use mathlib.Core.List.{List, [], ◌∷◌, ◌++◌, head-eq_of_cons-eq, tail-eq_of_cons-eq}
@@ -59,10 +59,10 @@ value_from_below x (b ∷ bs) (Digits.more d ds) =
     let q : suc x * 10 ^ suc (length bs) ≡ (10 * suc x) * 10 ^ length bs = ap (λ (p : ℕ). suc x * p) (pow-succ' 10 (length bs)) ∙ omega arith in
     omega arith
 
-pub digits_below : {l : List ℕ} → Digits l → length l ≤ 7 → value l < 10000000
-digits_below {l} h m =
-    let k : 10 ^ length l ≤ 10 ^ 7 = pow-le-pow_right (lit< tt) m in
+pub digits_below : {l : List ℕ} (n : ℕ) → Digits l → length l ≤ n → value l < 10 ^ n
+digits_below {l} n h m =
+    let k : 10 ^ length l ≤ 10 ^ n = pow-le-pow_right (lit< tt) m in
     omega (arith, value_from_below 0 l h)
 
 pub number_below : {l : List ℕ} {x : ℕ} → Number l x → x < 10000000
-number_below h = omega (arith, digits_below h.digits h.seven, h.number)
+number_below h = omega (arith, digits_below 7 h.digits h.seven, h.number)

@@ -1,10 +1,10 @@
 -- Laws of numbers written in decimal.
 --     natural_one, natural_more           a number below ten is written as one digit; another as its tenth part is, and one digit more
---     natural_of, integer_of              every number is written in some way
---     one_digit, front_of                 a number below ten takes one place, another one more than its tenth part
+--     natural_of                          every number is written in some way
+--     one_digit, natural_length           a number below ten takes one place; how many any other takes
 --     natural_unique, integer_unique      a number is written in one way
 --     natural_places, integer_places      a small number takes few places
--- The idea of the last four. A number of two digits or more has no leading zero, so all digits but the last write at least 1: they write the tenth part.
+-- The idea of all but the first two. A number of two digits or more has no leading zero, so all digits but the last write at least 1: they write the tenth part.
 -- So a number below ten has one digit, and any other is its tenth part and its last digit. Assumes nothing.
 use mathlib.Core.Path.{◌≡◌, refl, ap, sym, ◌∙◌, subst}
 use mathlib.Core.List.{List, [], ◌∷◌, ◌++◌}
@@ -183,13 +183,6 @@ one_digit {bs} {x} l w = go (form bs w)
     go (short few e) = ap length e
     go (long many front e v) = absurd (let no : ⊥ = omega arith in no)
 
-pub front_of : {bs : List ℕ} {x : ℕ} → 10 ≤ x → Natural bs x → (front : List ℕ) × Natural front (x / 10) × (length bs ≡ length front + 1)
-front_of {bs} {x} l w = go (form bs w)
-  where
-    go : Form bs x → (front : List ℕ) × Natural front (x / 10) × (length bs ≡ length front + 1)
-    go (short few e) = absurd (let no : ⊥ = omega arith in no)
-    go (long many front e v) = (front, v, ap length e ∙ length-append front ((48 + x % 10) ∷ []))
-
 form_places : (places : ℕ) {bs : List ℕ} {x : ℕ} → 1 ≤ places → x < 10 ^ places → Form bs x → length bs ≤ places
 form_places zero l h f = absurd (not-suc-le-zero l)
 form_places (suc k) l h (short few e) = rw e (omega arith)
@@ -199,6 +192,23 @@ form_places (suc k) {x = x} l h (long many front e w) =
 
 pub natural_places : (places : ℕ) {bs : List ℕ} {x : ℕ} → 1 ≤ places → x < 10 ^ places → Natural bs x → length bs ≤ places
 natural_places places {bs} l h w = form_places places l h (form bs w)
+
+pow-pos : (k : ℕ) → 1 ≤ 10 ^ k
+pow-pos zero = omega (arith, pow-zero 10)
+pow-pos (suc k) = omega (arith, pow-suc 10 k, pow-pos k)
+
+form_long : (k : ℕ) {bs : List ℕ} {x : ℕ} → 10 ^ k ≤ x → Form bs x → suc k ≤ length bs
+form_long zero h (short few e) = rw e (omega arith)
+form_long (suc k) h (short few e) = absurd (let no : ⊥ = omega (arith, pow-suc 10 k, pow-pos k) in no)
+form_long zero h (long many front e w) = rw e (rw length-append (omega arith))
+form_long (suc k) {x = x} h (long many front e w) =
+    let more : suc k ≤ length front = form_long k (omega (arith, pow-suc 10 k, div-add-mod x 10)) (form front w) in
+    rw e (rw length-append (omega arith))
+
+pub natural_length : (k : ℕ) {bs : List ℕ} {x : ℕ} → 10 ^ k ≤ x → x < 10 * 10 ^ k → Natural bs x → length bs ≡ k + 1
+natural_length k {bs} {x} from below w =
+    let few : length bs ≤ suc k = natural_places (suc k) (omega arith) (omega (arith, pow-suc 10 k)) w in
+    omega (arith, few, form_long k from (form bs w))
 
 -- ---- with a sign
 
@@ -219,10 +229,6 @@ same_integer e (plain v) (plain w) = same_natural (pos_same _ _ e) v w
 same_integer e (plain v) (minus w) = absurd (not_both _ _ e)
 same_integer e (minus v) (plain w) = absurd (not_both _ _ (sym e))
 same_integer e (minus v) (minus w) = ap (λ (l : List ℕ). 45 ∷ l) (same_natural (negsuc_same _ _ e) v w)
-
-pub integer_of : (z : ℤ) → (bs : List ℕ) × Integer bs z × (1 ≤ length bs)
-integer_of (pos x) = let (bs, w) = natural_of x in (bs, plain w, w.some)
-integer_of (negsuc x) = let (bs, w) = natural_of (suc x) in (45 ∷ bs, minus w, omega arith)
 
 pub integer_unique : {bs cs : List ℕ} {z : ℤ} → Integer bs z → Integer cs z → bs ≡ cs
 integer_unique v w = same_integer refl v w

@@ -11,12 +11,11 @@ use Prim.Native.Nat.{ℕ, suc, ◌+◌, ◌<◌, ◌≤◌}
 use native.Mathlib.Decide.{dec_lt}
 use native.Mathlib.Omega.{arith}
 use lib.IntN.{ℤ}
-use lib.ListN.{length, take, drop, length-append, length-drop}
-use Rattle.numerals.specs.Numbers.{Number, Field, plain, minus}
-use Rattle.numerals.specs.Fields.{Stops, ByteAt, NumberAt, FieldAt}
+use lib.ListN.{length, take, drop, length-drop}
+use Rattle.std.specs.Prelude.{Option, Some, None}
+use Rattle.numerals.specs.Fields.{ByteAt, Standing, NoField, ReadAt, NumberAt, FieldAt}
 use Rattle.numerals.specs.Appending.{Appended, Put, NaturalPut, IntegerPut}
-use Rattle.numerals.specs.declared.EventField.{EventField}
-use Rattle.numerals.specs.declared.DelayField.{DelayField}
+use Rattle.numerals.specs.declared.Parsed.{Parsed}
 use Rattle.numerals.proofs.Cuts.{OneCut, number_cut, field_cut}
 use Rattle.numerals.proofs.Decimal.{natural_unique, integer_unique}
 
@@ -28,59 +27,28 @@ byte_at_unique {t = false} {u = false} x y = refl
 
 -- ---- the number at a place
 
--- a field stands there that says v, and it stops at next
-abbrev Standing : {A : Type 0} → (List ℕ → A → Type 0) → List ℕ → ℕ → A → ℕ → Type 0
-Standing F bs at v next = (field : List ℕ) × F field v × (drop at bs ≡ field ++ drop next bs) × Stops (drop next bs)
+-- of any kind of field that is cut in one way
+module _ {A : Type 0} {F : List ℕ → A → Type 0} (cut : OneCut F) (bs : List ℕ) (at : ℕ) where
+  same_standing : {a b : Parsed A} → Standing F bs at a → Standing F bs at b → a ≡ b
+  same_standing {a} {b} x y =
+      let (same, rest) = cut x.field y.field (drop a.next bs) (drop b.next bs) a.value b.value x.is y.is x.stops y.stops (sym x.bytes ∙ y.bytes) in
+      let next : a.next ≡ b.next = omega (arith, ap length rest, length-drop a.next bs, length-drop b.next bs, x.within, y.within) in
+      λ i. record { value = same i; next = next i }
 
-module _ {A : Type 0} (F : List ℕ → A → Type 0) (cut : OneCut F) (some : (f : List ℕ) (v : A) → F f v → 1 ≤ length f) (bs : List ℕ) (at : ℕ) where
-  stands_inside : (v : A) (next : ℕ) → Standing F bs at v next → at ≤ length bs
-  stands_inside v next (f, w, e, _) =
-      omega (arith, some f v w, length-drop at bs, ap length e, length-append f (drop next bs))
+  not_both : {C : Type 0} {a : Parsed A} → Standing F bs at a → NoField F bs at → C
+  not_both {a = a} x y = absurd (y.none x.field (drop a.next bs) a.value x.bytes x.stops x.is)
 
-  same_stand : (v u : A) (next last : ℕ) → (at ≤ length bs → next ≤ length bs) → (at ≤ length bs → last ≤ length bs) → Standing F bs at v next → Standing F bs at u last → (v ≡ u) × (next ≡ last)
-  same_stand v u next last inside inside' x y =
-      let (f, w, e, stop) = x in
-      let (h, k, q, halt) = y in
-      let (same, rest) = cut f h (drop next bs) (drop last bs) v u w k stop halt (sym e ∙ q) in
-      let l : next ≤ length bs = inside (stands_inside v next x) in
-      let m : last ≤ length bs = inside' (stands_inside v next x) in
-      (same, omega (arith, ap length rest, length-drop next bs, length-drop last bs))
+  read_unique : (a b : Option (Parsed A)) → ReadAt F bs at a → ReadAt F bs at b → a ≡ b
+  read_unique (Some a) (Some b) x y = ap (λ (p : Parsed A). Some p) (same_standing x y)
+  read_unique (Some a) None x y = not_both x y
+  read_unique None (Some b) x y = not_both y x
+  read_unique None None x y = refl
 
-number_some : (f : List ℕ) (x : ℕ) → Number f x → 1 ≤ length f
-number_some f x w = w.some
+pub event_field_unique : (bs : List ℕ) (at : ℕ) (a b : Option (Parsed ℕ)) → NumberAt bs at a → NumberAt bs at b → a ≡ b
+event_field_unique bs at a b x y = read_unique number_cut bs at a b x y
 
-field_some : (f : List ℕ) (z : ℤ) → Field f z → 1 ≤ length f
-field_some f z (plain w) = w.some
-field_some f z (minus w) = omega arith
-
-module _ {bs : List ℕ} {at : ℕ} where
-  pub event_field_unique : {a b : EventField} → NumberAt bs at a → NumberAt bs at b → a ≡ b
-  event_field_unique {a} {b} x y = go a.right b.right refl refl
-    where
-      go : (t u : Bool) → a.right ≡ t → b.right ≡ u → a ≡ b
-      go true true e f =
-          let (value, next) = same_stand Number number_cut number_some bs at a.value b.value a.next b.next x.within y.within (x.right e) (y.right f) in
-          λ i. record { right = (e ∙ sym f) i; value = value i; next = next i }
-      go true false e f = let (field, w, bytes, stop) = x.right e in absurd (y.wrong f field (drop a.next bs) a.value bytes stop w)
-      go false true e f = let (field, w, bytes, stop) = y.right f in absurd (x.wrong e field (drop b.next bs) b.value bytes stop w)
-      go false false e f =
-          let (value, next) = x.nothing e in
-          let (value', next') = y.nothing f in
-          λ i. record { right = (e ∙ sym f) i; value = (value ∙ sym value') i; next = (next ∙ sym next') i }
-
-  pub delay_field_unique : {a b : DelayField} → FieldAt bs at a → FieldAt bs at b → a ≡ b
-  delay_field_unique {a} {b} x y = go a.right b.right refl refl
-    where
-      go : (t u : Bool) → a.right ≡ t → b.right ≡ u → a ≡ b
-      go true true e f =
-          let (value, next) = same_stand Field field_cut field_some bs at a.value b.value a.next b.next x.within y.within (x.right e) (y.right f) in
-          λ i. record { right = (e ∙ sym f) i; value = value i; next = next i }
-      go true false e f = let (field, w, bytes, stop) = x.right e in absurd (y.wrong f field (drop a.next bs) a.value bytes stop w)
-      go false true e f = let (field, w, bytes, stop) = y.right f in absurd (x.wrong e field (drop b.next bs) b.value bytes stop w)
-      go false false e f =
-          let (value, next) = x.nothing e in
-          let (value', next') = y.nothing f in
-          λ i. record { right = (e ∙ sym f) i; value = (value ∙ sym value') i; next = (next ∙ sym next') i }
+pub delay_field_unique : (bs : List ℕ) (at : ℕ) (a b : Option (Parsed ℤ)) → FieldAt bs at a → FieldAt bs at b → a ≡ b
+delay_field_unique bs at a b x y = read_unique field_cut bs at a b x y
 
 -- ---- what is written
 

@@ -7,112 +7,87 @@
 // specs/Fields.antt and Appending.antt.
 #![tactic(auto)]
 
-ghost use Rattle.std.specs.Prelude.{◌≡◌, true, false, List, [], ◌∷◌, ℕ, ◌+◌, ◌<◌, ◌≤◌, pos, nat_abs, ◌<ℤ◌, length};
-ghost use Rattle.numerals.specs.Numbers.{Natural};
+ghost use Rattle.std.specs.Prelude.{◌≡◌, true, false, List, [], ◌∷◌, ℕ, ◌+◌, ◌<◌, ◌≤◌, length};
+ghost use Rattle.std.specs.List.{prefix_len};
+ghost use Rattle.std.specs.Char.{is_ascii_digit};
+ghost use Rattle.numerals.specs.Numbers.{Digits, value, Natural};
 ghost use Rattle.numerals.specs.Fields.{ByteAt, NumberAt, FieldAt};
-ghost use Rattle.numerals.specs.Parts.Digits.{DigitAt};
 ghost use Rattle.numerals.specs.Appending.{Appended, Put, NaturalPut, IntegerPut};
 
-// Whether an event number stands at a place, which, and where it stops.
-#[derive(Clone, Copy)]
-pub struct EventField {
-    pub right: bool,
-    pub value: usize,
+// A number that stands at a place, and where it stops.
+#[derive(Clone, Copy, Debug, PartialEq, Eq)]
+pub struct Parsed<T> {
+    pub value: T,
     pub next: usize,
 }
 
-// The same of a delay.
-#[derive(Clone, Copy)]
-pub struct DelayField {
-    pub right: bool,
-    pub value: i64,
-    pub next: usize,
-}
+// The digits of the longest field.
+const MOST_DIGITS: usize = 7;
 
 // Whether a byte stands at a place.
 pub fn byte_at(text: &[u8], at: usize, byte: u8) -> bool
     ensures { ByteAt text.now at byte result }
 {
-    if at >= text.len() {
-        return false;
-    }
-    text[at] == byte
+    text.get(at) == Some(&byte)
 }
 
-// Whether a digit stands at a place.
-fn digit_at(text: &[u8], at: usize) -> bool
-    ensures { DigitAt text.now at result }
+// How many digits stand at the front.
+fn leading_digits(text: &[u8]) -> usize
+    ensures { result ≡ prefix_len is_ascii_digit text.now }
 {
-    if at >= text.len() {
-        return false;
+    text.iter().take_while(|byte| byte.is_ascii_digit()).count()
+}
+
+// The number that digits write: nineteen of them always fit.
+#[tactic(auto, using(crate::proofs::Taking::value_more, crate::proofs::Taking::digit_at, crate::proofs::Taking::front_below))]
+fn number(digits: &[u8]) -> usize
+    requires digits { Digits digits.now }
+    requires few { length digits.now ≤ 19 }
+    ensures { result ≡ value digits.now }
+{
+    let mut number = 0;
+    for digit in digits {
+        number = 10 * number + (*digit - b'0') as usize;
     }
-    let byte = text[at];
-    if byte < 48 {
-        return false;
-    }
-    byte <= 57
+    number
 }
 
 // The event number at `at`: the digits there, if they are one to seven.
-pub fn event_field(text: &[u8], at: usize) -> EventField
+#[tactic(auto, using(crate::proofs::Taking::leading_digits, crate::proofs::Taking::none_read))]
+pub fn event_field(text: &[u8], at: usize) -> Option<Parsed<usize>>
     ensures { NumberAt text.now at result }
 {
-    let mut next = at;
-    let mut value: usize = 0;
-    while digit_at(text, next) {
-        if next - at == 7 {
-            return EventField {
-                right: false,
-                value: 0,
-                next: at,
-            };
-        }
-        value = 10 * value + (text[next] as usize - 48);
-        next += 1;
+    let rest = text.get(at..)?;
+    let digits = leading_digits(rest);
+    if digits == 0 || digits > MOST_DIGITS {
+        return None;
     }
-    EventField {
-        right: next != at,
-        value: value,
-        next: next,
-    }
-}
-
-// No delay at `at`.
-fn no_delay(at: usize) -> DelayField
-    ensures { (result.right ≡ false) × (result.value ≡ pos 0) × (result.next ≡ at) }
-{
-    DelayField {
-        right: false,
-        value: 0,
-        next: at,
-    }
+    Some(Parsed {
+        value: number(&rest[..digits]),
+        next: at + digits,
+    })
 }
 
 // The delay at `at`: a minus or none, and one to seven digits.
-pub fn delay_field(text: &[u8], at: usize) -> DelayField
+#[tactic(auto, using(crate::proofs::FieldLaws::read_below, crate::proofs::FieldLaws::field_plain, crate::proofs::FieldLaws::field_minus))]
+pub fn delay_field(text: &[u8], at: usize) -> Option<Parsed<i64>>
     ensures { FieldAt text.now at result }
 {
-    if byte_at(text, at, 45) {
-        let digits = event_field(text, at + 1);
-        if !digits.right {
-            return no_delay(at);
-        }
-        return DelayField {
-            right: true,
-            value: 0 - digits.value as i64,
+    if byte_at(text, at, b'-') {
+        let digits = event_field(text, at + 1)?;
+        return Some(Parsed {
+            value: -(digits.value as i64),
             next: digits.next,
-        };
+        });
     }
-    let digits = event_field(text, at);
-    if !digits.right {
-        return no_delay(at);
-    }
-    DelayField {
-        right: true,
+    let digits = event_field(text, at)?;
+    Some(Parsed {
         value: digits.value as i64,
         next: digits.next,
-    }
+    })
 }
+
+// Kept: the writers give a place, and no Option. `Put` promises the place back where there is no room, and each caller has room, so it would unwrap them all.
 
 // One byte.
 pub fn put_byte(out: &mut [u8], at: usize, byte: u8) -> usize
@@ -129,100 +104,71 @@ pub fn put_byte(out: &mut [u8], at: usize, byte: u8) -> usize
 pub fn put_bytes(out: &mut [u8], at: usize, bytes: &[u8]) -> usize
     ensures { Put out.old at bytes.now out.new result }
 {
-    if at > out.len() {
+    if at > out.len() || out.len() - at < bytes.len() {
         return at;
     }
-    if out.len() - at < bytes.len() {
-        return at;
-    }
-    let mut next = at;
-    let mut i = 0;
-    while i < bytes.len() {
-        next = put_byte(out, next, bytes[i]);
-        i += 1;
-    }
+    let next = at + bytes.len();
+    out[at..next].copy_from_slice(bytes);
     next
 }
 
-// The byte of a digit.
-fn digit(x: usize) -> u8
-    requires { x < 10 }
-    ensures { result ≡ 48 + x }
-{
-    (48 + x) as u8
-}
-
 // How many digits x has.
+#[tactic(auto, using(crate::proofs::Decimal::one_digit))]
 fn places(x: usize) -> usize
     ensures { (bs : List ℕ) → Natural bs x → length bs ≡ result }
 {
-    let mut rest = x;
-    let mut k = 1;
-    while rest >= 10 {
-        rest = rest / 10;
-        k += 1;
+    match x.checked_ilog10() {
+        Some(power) => power as usize + 1,
+        None => 1,
     }
-    k
 }
 
 // Whether x fits so many places. A number has at most 20 digits.
+#[tactic(auto, using(crate::proofs::WrittenNumbers::word_places))]
 fn fits(x: usize, room: usize) -> bool
     ensures yes { result ≡ true → (bs : List ℕ) → Natural bs x → length bs ≤ room }
     ensures no { result ≡ false → (bs : List ℕ) → Natural bs x → room < length bs }
 {
-    if room >= 20 {
-        return true;
-    }
-    places(x) <= room
+    room >= 20 || places(x) <= room
 }
 
 // x in decimal, where there is room.
+#[tactic(auto, using(crate::proofs::WrittenNumbers::put_one))]
 fn put_digits(out: &mut [u8], at: usize, x: usize) -> usize
     requires { (bs : List ℕ) → Natural bs x → at + length bs ≤ length out.old }
     ensures { (bs : List ℕ) × Natural bs x × Appended out.old at bs out.new result }
 {
+    let last = b'0' + (x % 10) as u8;
     if x < 10 {
-        return put_byte(out, at, digit(x));
+        return put_byte(out, at, last);
     }
     let next = put_digits(out, at, x / 10);
-    put_byte(out, next, digit(x % 10))
+    put_byte(out, next, last)
 }
 
 // x in decimal.
+#[tactic(auto, using(crate::proofs::WrittenNumbers::natural_full))]
 pub fn put_natural(out: &mut [u8], at: usize, x: usize) -> usize
     ensures { NaturalPut out.old at x out.new result }
 {
-    if at > out.len() {
-        return at;
-    }
-    if !fits(x, out.len() - at) {
+    if !fits(x, out.len().saturating_sub(at)) {
         return at;
     }
     put_digits(out, at, x)
 }
 
-// How far below zero z is: minus the least word is no word, so the 1 is added after.
-fn below_zero(z: i64) -> usize
-    requires { z <ℤ pos 0 }
-    ensures { result ≡ nat_abs z }
-{
-    (0 - (z + 1)) as usize + 1
-}
-
 // z in decimal.
+#[tactic(auto, using(crate::proofs::WrittenNumbers::put_plain_word, crate::proofs::WrittenNumbers::minus_full_word))]
 pub fn put_integer(out: &mut [u8], at: usize, z: i64) -> usize
     ensures { IntegerPut out.old at z out.new result }
 {
+    let digits = z.unsigned_abs() as usize;
     if z >= 0 {
-        return put_natural(out, at, z as usize);
+        return put_natural(out, at, digits);
     }
-    if at >= out.len() {
+    if !fits(digits, out.len().saturating_sub(at).saturating_sub(1)) {
         return at;
     }
-    let digits = below_zero(z);
-    if !fits(digits, out.len() - at - 1) {
-        return at;
-    }
-    let next = put_byte(out, at, 45);
+    let next = put_byte(out, at, b'-');
     put_digits(out, next, digits)
 }

@@ -10,12 +10,12 @@
 --     solved_fits                where no event's set has more, none is
 -- Assumes nothing.
 use mathlib.Core.Path.{◌≡◌, sym, subst}
-use mathlib.Core.Bool.{true, false}
 use mathlib.Core.List.{List, []}
 use Prim.Native.Nat.{ℕ, ◌<◌, ◌≤◌}
 use native.Mathlib.Omega.{arith}
 use lib.IntN.{ℤ}
 use lib.ListN.{length}
+use Rattle.std.specs.Prelude.{Result, Ok, Err}
 use Rattle.graphs.specs.Graph.{Graph, rules, target}
 use Rattle.graphs.specs.Path.{Path}
 use Rattle.graphs.specs.Limits.{EndsKept, SoundGraph}
@@ -27,7 +27,8 @@ use Rattle.sets.specs.Set.{SetValue, Prunes}
 use Rattle.sets.specs.Family.{Covers, Closes}
 use Rattle.sets.specs.Held.{pairs_of}
 use Rattle.sets.specs.Promise.{PrunedTo}
-use Rattle.sets.specs.declared.Pruning.{Pruning}
+use Rattle.sets.specs.declared.PrunedSet.{PrunedSet}
+use Rattle.sets.specs.declared.TooManyPairs.{TooManyPairs}
 use Rattle.sets.proofs.Covers.{closes_unique, prunes_closes}
 use Rattle.sets.proofs.Promises.{pruning_closes, pruning_more}
 use Rattle.paths.specs.Cap.{CapOf, no_m, Caps}
@@ -68,14 +69,14 @@ module _ {g : Graph} {s t : ℕ} {cap : ℕ → Limit} {full : ℕ → List Pair
       (λ i h out. (solved.sets.each (target g i)).numbered.number_of) turn in
       (covers, λ T h. set_found (prunes_closes covers h))
 
-  pub pruning_found : {v room : ℕ} {C : List Pair} (r : Pruning) → Covers C (PathPairs g cap t v) → PrunedTo C room r
-      → (r.more ≡ false → (pairs_of r.set ≡ full v) × (length (full v) ≤ room)) × (r.more ≡ true → room < length (full v))
-  pruning_found {room = room} r covers h = (
-    λ e.
-        let (closes, short) = pruning_closes r covers h e in
+  pub pruning_found : {v room : ℕ} {C : List Pair} (r : Result PrunedSet TooManyPairs) → Covers C (PathPairs g cap t v) → PrunedTo C room r
+      → ((s : PrunedSet) → r ≡ Ok s → (pairs_of s ≡ full v) × (length (full v) ≤ room)) × ((e : TooManyPairs) → r ≡ Err e → room < length (full v))
+  pruning_found {room = room} {C = C} r covers h = (
+    λ s is.
+        let (closes, short) = pruning_closes covers s (subst (PrunedTo C room) is h) in
         let same = set_found closes in
         (same, subst (λ (T : List Pair). length T ≤ room) same short),
-    λ e. let (T, closes, over) = pruning_more r covers h e in subst (λ (T : List Pair). room < length T) (set_found closes) over,
+    λ e is. let (T, closes, over) = pruning_more covers e (subst (PrunedTo C room) is h) in subst (λ (T : List Pair). room < length T) (set_found closes) over,
   )
 
   pub no_path_cap : {v : ℕ} → (Path g v s → ⊥) → cap v ≡ unlimited

@@ -22,7 +22,6 @@ use Prim.Native.Nat.{ℕ, suc, ◌+◌, ◌*◌, ◌<◌, ◌≤◌}
 use native.Mathlib.Omega.{arith}
 use lib.IntN.{ℤ}
 use lib.ListN.{take}
-use Rattle.graphs.specs.Graph as rule
 use Rattle.graphs.specs.Graph.{Graph, graph_of, rules}
 use Rattle.graphs.specs.Path.{Path, stay, step, steps, HasCycle}
 use Rattle.graphs.proofs.Refusals.{cycle_exactly}
@@ -36,12 +35,12 @@ use Rattle.separation.specs.Coarse.{CoarseVerdict}
 use Rattle.rounding.proofs.Promises.{step_kept}
 use Rattle.processes.specs.declared.Event.{Event}
 use Rattle.processes.specs.declared.Unfolded.{Unfolded}
-use Rattle.processes.specs.Process.{ProcessGraph, templates, source, target, occurrence, Node, at, number, Instance, together, onward, start}
+use Rattle.processes.specs.Process.{ProcessGraph, templates, source, target, occurrence, Node, number, Instance, together, onward, start}
 use Rattle.processes.specs.Ways.{MarkZeroWay, empty, along, templates_on, MarkZeroCycle}
 use Rattle.processes.specs.Unfolding.{Unfolds, UnfoldingAnswered, UnfoldingWritten}
-use Rattle.processes.proofs.Numbers.{place_below, Place, place_found}
+use Rattle.processes.proofs.Numbers.{place_below}
 use Rattle.processes.proofs.Occurrences.{event_same, numbers_apart, never_root}
-use Rattle.processes.proofs.Exactly.{instance_unique, rule_at_place}
+use Rattle.processes.proofs.Exactly.{instance_unique, place_of, rule_at_place, rule_enters}
 use Rattle.processes.proofs.Refusals.{Kept}
 use Rattle.processes.proofs.Handed.{unfolded_sized, past_question, handed}
 
@@ -98,37 +97,23 @@ module _ {g : ProcessGraph} where
       record { no_lower = omega (arith, rest.no_lower); way = λ level. absurd (let no : ⊥ = omega (arith, rest.no_lower) in no) }
   first_folds {k} {u = u} hu is_template known leaves (start m e) rest = absurd (never_root g k u leaves)
 
-  -- every instance at k leads to occurrence k of its template's target
-  instance_enters : {k j : ℕ} {u v : Node} {d D : ℤ} → Instance g k j u v d D → v ≡ at (occurrence g k (target g j))
-  instance_enters (together m) = refl
-  instance_enters (onward b m e) = refl
-  instance_enters (start m e) = refl
-
 module _ {g : ProcessGraph} {K : ℕ} {graph : Graph} (unfolds : Unfolds g K graph)
     (known : (j : ℕ) → j < templates g → EndsKnown g.events g.sources g.targets j) where
-  place_of : (i : ℕ) → i < rules graph → Place (templates g) K i
-  place_of i l = place_found (templates g) K i (omega (arith, unfolds.sources_count))
-
-  rule_enters : (i : ℕ) (p : Place (templates g) K i) → rule.target graph i ≡ (occurrence g p.row (target g p.within)).0
-  rule_enters i p =
-      let r = rule_at_place unfolds i p in
-      r.to_number ∙ ap number (instance_enters r.instance)
-
   pub path_folds : {x y : ℕ} (p : Path graph x y) (k l : ℕ) (u v : Event) → u.0 < g.events → v.0 < g.events
       → x ≡ (occurrence g k u).0 → y ≡ (occurrence g l v).0 → Folded g k l u v (steps p)
   path_folds stay k l u v hu hv ex ey = empty_folds k l u v hu hv (sym ex ∙ ey)
   path_folds (step i is_rule e f p) k l u v hu hv ex ey =
-      let place = place_of i is_rule in
+      let place = place_of unfolds i is_rule in
       let r = rule_at_place unfolds i place in
       let ends = known place.within place.within_below in
       first_folds hu place.within_below ends.source_known (sym ex ∙ (sym e ∙ r.from_number)) r.instance
-      (path_folds p place.row l (target g place.within) v ends.target_known hv (sym f ∙ rule_enters i place) ey)
+      (path_folds p place.row l (target g place.within) v ends.target_known hv (sym f ∙ rule_enters unfolds i place) ey)
 
   pub ends_at_occurrence : {x y : ℕ} (p : Path graph x y) → 0 < steps p → (k : ℕ) × (u : Event) × (u.0 < g.events) × (y ≡ (occurrence g k u).0)
   ends_at_occurrence stay some = absurd (let no : ⊥ = omega arith in no)
   ends_at_occurrence (step i is_rule e f stay) some =
-      let p = place_of i is_rule in
-      (p.row, target g p.within, (known p.within p.within_below).target_known, sym f ∙ rule_enters i p)
+      let p = place_of unfolds i is_rule in
+      (p.row, target g p.within, (known p.within p.within_below).target_known, sym f ∙ rule_enters unfolds i p)
   ends_at_occurrence (step i is_rule e f (step i' is-rule' e' f' p)) some = ends_at_occurrence (step i' is-rule' e' f' p) (omega arith)
 
   pub cycle_folds : HasCycle graph → MarkZeroCycle g

@@ -5,6 +5,8 @@
 --     rules_in_R                                 each rule of 01's list is one of R
 --     R-in-rules                                 each rule of R is one of 01's list, where the marks are 0 or 1
 --     same_rules                                 both at once
+--     instance_enters, rule_enters               an instance at k, and so a rule in row k, leads to occurrence k of its template's target
+--     place_of                                   a rule of the unfolding stands in a row
 --     rule_at_place                              rule i of the unfolding is the instance of a template at a k below K
 --     marks_kept                                 where something unfolds, the marks are 0 or 1
 --     InGraph graph u v d D, Listed L graph i    the graph has a rule from u to v with delay [d, D]; its rule i is one of L
@@ -47,6 +49,12 @@ instance_unique (onward b m e) (start m' e') = absurd (let no : ⊥ = omega arit
 instance_unique (start m e) (together m') = absurd (let no : ⊥ = omega arith in no)
 instance_unique (start m e) (onward b m' e') = absurd (let no : ⊥ = omega arith in no)
 instance_unique (start m e) (start m' e') = record { from = refl; to = refl; least_delay = refl; most_delay = refl }
+
+-- every instance at k leads to occurrence k of its template's target
+pub instance_enters : {g : ProcessGraph} {k j : ℕ} {u v : Node} {d D : ℤ} → Instance g k j u v d D → v ≡ at (occurrence g k (target g j))
+instance_enters (together m) = refl
+instance_enters (onward b m e) = refl
+instance_enters (start m e) = refl
 
 -- ---- 01's list and the report's R
 
@@ -96,8 +104,16 @@ Listed L graph i =
     (u : Node) × (v : Node) × (L u v (rule.least graph i) (rule.most graph i)) × (rule.source graph i ≡ number u) × (rule.target graph i ≡ number v)
 
 module _ {g : ProcessGraph} {K : ℕ} {graph : Graph} (unfolds : Unfolds g K graph) where
+  pub place_of : (i : ℕ) → i < rules graph → Place (templates g) K i
+  place_of i l = place_found (templates g) K i (omega (arith, unfolds.sources_count))
+
   pub rule_at_place : (i : ℕ) (p : Place (templates g) K i) → RuleAt g p.row p.within graph i
   rule_at_place i p = subst (RuleAt g p.row p.within graph) (sym p.there) (unfolds.each p.row p.within p.row_below p.within_below)
+
+  pub rule_enters : (i : ℕ) (p : Place (templates g) K i) → rule.target graph i ≡ (occurrence g p.row (target g p.within)).0
+  rule_enters i p =
+      let r = rule_at_place i p in
+      r.to_number ∙ ap number (instance_enters r.instance)
 
   pub nothing_missing : {u v : Node} {d D : ℤ} → Rules g K u v d D → InGraph graph u v d D
   nothing_missing r =
@@ -108,7 +124,7 @@ module _ {g : ProcessGraph} {K : ℕ} {graph : Graph} (unfolds : Unfolds g K gra
 
   pub nothing_more : (i : ℕ) → i < rules graph → Listed (Rules g K) graph i
   nothing_more i l =
-      let p = place_found (templates g) K i (omega (arith, unfolds.sources_count)) in
+      let p = place_of i l in
       let r = rule_at_place i p in
       (r.from, r.to, record { k = p.row; k_below = p.row_below; template = p.within; is_template = p.within_below; instance = r.instance }, r.from_number, r.to_number)
 
@@ -129,5 +145,5 @@ pub record EachOnce (T K i : ℕ) : Type 0 where
 
 pub each_once : {g : ProcessGraph} {K : ℕ} {graph : Graph} → Unfolds g K graph → (i : ℕ) → i < rules graph → EachOnce (templates g) K i
 each_once {g} {K} unfolds i l =
-    let p = place_found (templates g) K i (omega (arith, unfolds.sources_count)) in
+    let p = place_of unfolds i l in
     record { place = p; no_other = λ k j h e. places_apart (templates g) k p.row j p.within h p.within_below (sym e ∙ p.there) }

@@ -26,8 +26,7 @@ use Rattle.separation.specs.Promise as analysis
 use Rattle.processes.specs.declared.Unfolded.{Unfolded}
 use Rattle.processes.specs.Process.{ProcessGraph, templates, source, target, Node, number, Instance, together, onward, start}
 use Rattle.processes.specs.Unfolding.{process_checks, UnfoldingVerdict, Unfolds, UnfoldingAnswered, UnfoldingWritten}
-use Rattle.processes.proofs.Numbers.{place_found}
-use Rattle.processes.proofs.Exactly.{rule_at_place}
+use Rattle.processes.proofs.Exactly.{place_of, rule_at_place}
 use Rattle.processes.proofs.Occurrences.{occurrence_below}
 use Rattle.processes.proofs.Refusals.{TemplatesKept, Kept, process_none, process_kept}
 
@@ -78,7 +77,7 @@ instance_sized {g} {K} {k} {j} kept below l (start m first) =
 module _ {g : ProcessGraph} {K : ℕ} {graph : Graph} (kept : Kept g K) (unfolds : Unfolds g K graph) where
   rule_sized : (i : ℕ) → i < rules graph → (EndsKept graph i) × (DelaysKept 1000000 graph i)
   rule_sized i l =
-      let p = place_found (templates g) K i (omega (arith, unfolds.sources_count)) in
+      let p = place_of unfolds i l in
       let r = rule_at_place unfolds i p in
       let s = instance_sized kept.each p.row_below p.within_below r.instance in (
         record {

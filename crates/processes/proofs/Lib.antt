@@ -7,6 +7,5 @@ pub mod Handed
 pub mod Cycles
 pub mod Unique
 pub mod Starts
-pub mod Products
 pub mod Verdicts
 pub mod Writing

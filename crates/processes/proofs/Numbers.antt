@@ -3,11 +3,13 @@
 --     place_below      a place in one of the first K rows is below T × K
 --     Place T K i      i is place `within` of row `row`, of K rows
 --     place_found      every number below T × K is a place in one of the first K rows
+--     many             a product with a factor above 0 is no less than the other factor
+--     large_copies     more copies than there may be occurrences are too many, where there is an event
 -- Assumes nothing.
 use mathlib.Core.Path.{◌≡◌, sym, subst}
 use mathlib.Core.Logic.{◌⊎◌, inl, inr}
-use Prim.Native.Nat.{ℕ, ◌+◌, ◌*◌, ◌/◌, ◌%◌, ◌<◌}
-use native.Mathlib.Nat.{mul_comm, suc-mul, zero-mul, mul-le-mul_right, mod-lt, div-add-mod', lt_of_mul-lt-mul_right, eq-zero-or-pos}
+use Prim.Native.Nat.{ℕ, ◌+◌, ◌*◌, ◌/◌, ◌%◌, ◌<◌, ◌≤◌}
+use native.Mathlib.Nat.{mul_comm, suc-mul, zero-mul, mul-le-mul_left, mul-le-mul_right, mod-lt, div-add-mod', lt_of_mul-lt-mul_right, eq-zero-or-pos}
 use native.Mathlib.Decide.{dec_lt}
 use native.Mathlib.Omega.{arith}
 
@@ -51,3 +53,9 @@ place_found T K i l = by (eq-zero-or-pos T)
           within_below = mod-lt i positive;
           there = sym whole;
         }
+
+pub many : (n m : ℕ) → 0 < m → n ≤ n * m
+many n m l = omega (arith, mul-le-mul_left {m = 1} {n = m} n l)
+
+pub large_copies : (p K : ℕ) → (p ≡ 0 → ⊥) → 1024 ≤ K → 1024 < 1 + p * K
+large_copies p K some h = omega (arith, many K p (omega arith))

@@ -22,13 +22,13 @@ use native.Mathlib.Omega.{arith}
 use lib.ListN.{length}
 use Rattle.sequences.proofs.Lengths.{stable}
 use Rattle.verdicts.specs.Verdict.{given, passed, Accepted, FirstThen, FirstOf, Lowest}
-use Rattle.verdicts.proofs.Verdicts.{OnePlaces, Misses, NoneApplies, at_zero, misses_at_zero, holds_not, passed_all, none_accepted, accepted_none, lowest_unique, at_zero_unique, none_lowest, Alike, more_alike, alike_refl}
+use Rattle.verdicts.proofs.Verdicts.{OnePlaces, Misses, NoneApplies, at_zero, misses_at_zero, holds_not, passed_all, none_accepted, accepted_none, front_given, lowest_unique, at_zero_unique, none_lowest, Alike, more_alike, alike_refl}
 use Rattle.graphs.specs.Graph.{Graph, graph_of}
 use Rattle.graphs.specs.Limits.{EndsKept, DelaysKept}
 use Rattle.graphs.specs.Refusal.{EventsOutside, no_events, many_events, OutsideDelays}
 use Rattle.graphs.proofs.Refusals.{short_at}
 use Rattle.graphs.proofs.Unique.{known_ends, ends_kept, inside_delays, delays_kept}
-use Rattle.processes.specs.Parts.Checks.{ProcessCountsKept, process_count_checks, MarkKept}
+use Rattle.processes.specs.Parts.Checks.{ProcessCountsKept, ListsKept, process_count_checks, MarkKept}
 use Rattle.processes.specs.Process.{ProcessGraph, templates, least, most, mark, start_least, start_most}
 use Rattle.processes.specs.Unfolding.{
   TemplatesOutside,
@@ -48,7 +48,7 @@ use Rattle.processes.specs.Unfolding.{
   MarkOutside,
   process_checks,
 }
-use Rattle.processes.proofs.Products.{many}
+use Rattle.processes.proofs.Numbers.{many}
 
 abbrev pub plain : ProcessGraph → Graph
 plain g = graph_of g.events g.sources g.targets g.leasts g.mosts
@@ -73,6 +73,21 @@ pub record Kept (g : ProcessGraph) (K : ℕ) : Type 0 where
 pub process_places : (g : ProcessGraph) (K : ℕ) (Short : Type 0) → OnePlaces (process_checks g K Short)
 process_places g K Short = (at_zero_unique, (at_zero_unique, (at_zero_unique, (at_zero_unique, (lowest_unique, (lowest_unique, (lowest_unique, tt)))))))
 
+-- ---- where the counts are kept
+
+events_in : {p : ℕ} → (p ≡ 0 → ⊥) → p ≤ 1023 → EventsOutside 1023 p → ⊥
+events_in some few (no_events e) = some e
+events_in some few (many_events l) = omega arith
+
+templates_in : {g : ProcessGraph} → ListsKept g → TemplatesOutside g → ⊥
+templates_in kept (many_templates l) = omega (arith, kept.few_templates)
+templates_in kept (targets_differ d) = d kept.targets_match
+templates_in kept (leasts_differ d) = d kept.leasts_match
+templates_in kept (mosts_differ d) = d kept.mosts_match
+templates_in kept (marks_differ d) = d kept.marks_match
+templates_in kept (start_leasts_differ d) = d kept.start_leasts_match
+templates_in kept (start_mosts_differ d) = d kept.start_mosts_match
+
 -- ---- what the absence of each refusal says
 
 module _ {g : ProcessGraph} {K : ℕ} where
@@ -82,32 +97,30 @@ module _ {g : ProcessGraph} {K : ℕ} where
       let copies : K ≡ 0 → ⊥ = λ e. no-24 (no_copies e) in
       let few : 1024 < 1 + g.events * K → ⊥ = λ l. no-24 (many_occurrences l) in
       let few' : 4096 < templates g * K → ⊥ = λ l. no-24 (many_rules l) in
+      let few'' : 4096 < templates g → ⊥ = λ l. no_22 (many_templates l) in
       record {
         some_event = omega arith;
         some_copy = omega arith;
         few_occurrences = omega arith;
         few_rules = omega arith;
-        targets_match = stable (length g.targets) (templates g) (λ d. no_22 (targets_differ d));
-        leasts_match = stable (length g.leasts) (templates g) (λ d. no_22 (leasts_differ d));
-        mosts_match = stable (length g.mosts) (templates g) (λ d. no_22 (mosts_differ d));
-        marks_match = stable (length g.marks) (templates g) (λ d. no_22 (marks_differ d));
-        start_leasts_match = stable (length g.start_leasts) (templates g) (λ d. no_22 (start_leasts_differ d));
-        start_mosts_match = stable (length g.start_mosts) (templates g) (λ d. no_22 (start_mosts_differ d));
+        lists =
+            record {
+              few_templates = omega arith;
+              targets_match = stable (length g.targets) (templates g) (λ d. no_22 (targets_differ d));
+              leasts_match = stable (length g.leasts) (templates g) (λ d. no_22 (leasts_differ d));
+              mosts_match = stable (length g.mosts) (templates g) (λ d. no_22 (mosts_differ d));
+              marks_match = stable (length g.marks) (templates g) (λ d. no_22 (marks_differ d));
+              start_leasts_match = stable (length g.start_leasts) (templates g) (λ d. no_22 (start_leasts_differ d));
+              start_mosts_match = stable (length g.start_mosts) (templates g) (λ d. no_22 (start_mosts_differ d));
+            };
       }
 
-  -- with one copy at least, there are no more events and templates than occurrences and rules
+  -- with one copy at least, there are no more events than occurrences
   pub events_inside : ProcessCountsKept g K → EventsOutside 1023 g.events → ⊥
-  events_inside kept (no_events e) = omega (arith, kept.some_event)
-  events_inside kept (many_events l) = omega (arith, kept.few_occurrences, many g.events K kept.some_copy)
+  events_inside kept = events_in (λ e. omega (arith, kept.some_event)) (omega (arith, kept.few_occurrences, many g.events K kept.some_copy))
 
   pub templates_inside : ProcessCountsKept g K → TemplatesOutside g → ⊥
-  templates_inside kept (many_templates l) = omega (arith, kept.few_rules, many (templates g) K kept.some_copy)
-  templates_inside kept (targets_differ d) = d kept.targets_match
-  templates_inside kept (leasts_differ d) = d kept.leasts_match
-  templates_inside kept (mosts_differ d) = d kept.mosts_match
-  templates_inside kept (marks_differ d) = d kept.marks_match
-  templates_inside kept (start_leasts_differ d) = d kept.start_leasts_match
-  templates_inside kept (start_mosts_differ d) = d kept.start_mosts_match
+  templates_inside kept = templates_in kept.lists
 
   pub unfolding_inside : ProcessCountsKept g K → UnfoldingOutside g K → ⊥
   unfolding_inside kept (no_copies e) = omega (arith, kept.some_copy)
@@ -134,29 +147,6 @@ module _ {g : ProcessGraph} where
 
 -- ---- where nothing is refused
 
-events_in : {p : ℕ} → (p ≡ 0 → ⊥) → p ≤ 1023 → EventsOutside 1023 p → ⊥
-events_in some few (no_events e) = some e
-events_in some few (many_events l) = omega arith
-
--- the templates of a process graph whose template lists are kept
-pub record ListsKept (g : ProcessGraph) : Type 0 where
-  pub few_templates : templates g ≤ 4096
-  pub targets_match : length g.targets ≡ templates g
-  pub leasts_match : length g.leasts ≡ templates g
-  pub mosts_match : length g.mosts ≡ templates g
-  pub marks_match : length g.marks ≡ templates g
-  pub start_leasts_match : length g.start_leasts ≡ templates g
-  pub start_mosts_match : length g.start_mosts ≡ templates g
-
-templates_in : {g : ProcessGraph} → ListsKept g → TemplatesOutside g → ⊥
-templates_in kept (many_templates l) = omega (arith, kept.few_templates)
-templates_in kept (targets_differ d) = d kept.targets_match
-templates_in kept (leasts_differ d) = d kept.leasts_match
-templates_in kept (mosts_differ d) = d kept.mosts_match
-templates_in kept (marks_differ d) = d kept.marks_match
-templates_in kept (start_leasts_differ d) = d kept.start_leasts_match
-templates_in kept (start_mosts_differ d) = d kept.start_mosts_match
-
 module _ {g : ProcessGraph} {K : ℕ} where
   pub count_21 : EventsOutside 1023 g.events → FirstOf (process_count_checks g K) 21 0
   count_21 h = given (at_zero h)
@@ -167,6 +157,10 @@ module _ {g : ProcessGraph} {K : ℕ} where
 
     pub count_24 : ListsKept g → UnfoldingOutside g K → FirstOf (process_count_checks g K) 24 0
     count_24 lists h = passed (misses_at_zero (events_in some few)) (passed (misses_at_zero (templates_in lists)) (given (at_zero h)))
+
+  pub counts_within : (g.events ≡ 0 → ⊥) → (K ≡ 0 → ⊥) → 1 + g.events * K ≤ 1024 → templates g * K ≤ 4096 → ListsKept g → ProcessCountsKept g K
+  counts_within some copies few few' lists =
+      record { some_event = omega arith; some_copy = omega arith; few_occurrences = few; few_rules = few'; lists = lists }
 
   pub counts_miss : ProcessCountsKept g K → NoneApplies (process_count_checks g K)
   counts_miss counts = (misses_at_zero (events_inside counts), (misses_at_zero (templates_inside counts), (misses_at_zero (unfolding_inside counts), tt)))
@@ -205,7 +199,7 @@ module _ {g : ProcessGraph} where
 module _ {g : ProcessGraph} {K : ℕ} {Short : Type 0} where
   -- 02: "checked 21, 22, 24, 23": an unfolding beyond its limits is refused with 24, however long the lent lists are
   pub unfolding_first : (g.events ≡ 0 → ⊥) → g.events ≤ 1023 → ListsKept g → UnfoldingOutside g K → FirstOf (process_checks g K Short) 24 0
-  unfolding_first some few lists h = passed (misses_at_zero (events_in some few)) (passed (misses_at_zero (templates_in lists)) (given (at_zero h)))
+  unfolding_first some few lists h = front_given (process_count_checks g K) _ 24 0 (λ e. omega arith) (count_24 some few lists h)
 
   pub short_first : ProcessCountsKept g K → Short → FirstOf (process_checks g K Short) 23 0
   short_first counts h = after_counts counts _ 23 0 (given (at_zero h))

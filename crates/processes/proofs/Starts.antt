@@ -13,10 +13,11 @@ use mathlib.Core.List.{List}
 use Prim.Native.Nat.{ℕ, ◌<◌}
 use lib.IntN.{ℤ, pos}
 use Rattle.integers.proofs.Integer.{linear, negation}
-use Rattle.verdicts.specs.Verdict.{Accepted, AtZero, Lowest}
+use Rattle.verdicts.specs.Verdict.{Accepted, Lowest}
 use Rattle.verdicts.proofs.Verdicts.{Alike, more_alike, none_alike, then_alike}
 use Rattle.graphs.specs.Graph.{Graph}
 use Rattle.graphs.specs.Refusal.{OutsideDelays}
+use Rattle.graphs.proofs.Refusals.{short_at}
 use Rattle.refusals.proofs.Unique.{inside_not_outside}
 use Rattle.processes.specs.declared.Unfolded.{Unfolded}
 use Rattle.processes.specs.Process.{ProcessGraph, templates, target, occurrence, Node, root, at, Instance, together, onward, start}
@@ -157,10 +158,7 @@ alike_back a =
       most_alike = λ j m. sym (a.most_alike j m);
     }
 
--- what holds at place 0 of one, or lowest of one, does so of the other
-at_zero_too : {A B : Type 0} → (A → B) → (p : ℕ) → AtZero A p → AtZero B p
-at_zero_too f p a = record { zero_place = a.zero_place; holds = f a.holds }
-
+-- what is lowest of one is so of the other
 lowest_too : {A B : ℕ → Type 0} → ((j : ℕ) → A j → B j) → ((j : ℕ) → B j → A j) → (p : ℕ) → Lowest A p → Lowest B p
 lowest_too f b p a = record { holds = f p a.holds; lowest = λ q l h. a.lowest q l (b q h) }
 
@@ -169,8 +167,8 @@ module _ {g : ProcessGraph} {es Es : List ℤ} (alike : StartsAlike g es Es) {K 
   checks_unread =
       let back = alike_back alike in
       more_alike (λ q a. a) (λ q a. a)
-      (more_alike (at_zero_too (templates_unread alike)) (at_zero_too (templates_unread back))
-      (more_alike (at_zero_too (unfolding_unread alike)) (at_zero_too (unfolding_unread back))
+      (more_alike (short_at (templates_unread alike)) (short_at (templates_unread back))
+      (more_alike (short_at (unfolding_unread alike)) (short_at (unfolding_unread back))
       (more_alike (λ q a. a) (λ q a. a)
       (more_alike (lowest_too (event_unread alike) (event_unread back)) (lowest_too (event_unread back) (event_unread alike))
       (more_alike (lowest_too (delay_unread alike) (delay_unread back)) (lowest_too (delay_unread back) (delay_unread alike))

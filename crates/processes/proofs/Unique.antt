@@ -5,8 +5,10 @@
 --     SameEntries i                    rule i of two event graphs is the same
 --     graphs_agree                     two event graphs that are the unfolding of one process graph are equal
 --     SameRuleLists, written_unique    what two runs leave in the four lists
---     unfold_unique                    all of it: two results of `unfold` are equal
+--     unfold_unique                    all of it: two results of `unfold` are equal, by their numbers
+--     told_by_numbers, unfold_result_unique    the numbers tell the result, so two results of one question are equal
 -- Assumes nothing.
+use Rattle.std.proofs.Common.{Result, Ok, Err}
 use mathlib.Core.Path.{◌≡◌, sym, ap, subst, ◌∙◌}
 use mathlib.Core.List.{List}
 use Prim.Native.Nat.{ℕ, ◌*◌, ◌<◌}
@@ -18,7 +20,11 @@ use Rattle.sequences.proofs.Same.{same_parts}
 use Rattle.graphs.specs.Graph as rule
 use Rattle.graphs.specs.Graph.{Graph}
 use Rattle.verdicts.proofs.Verdicts.{one_verdict}
+use Rattle.refusals.specs.declared.Refusal.{Refusal}
+use Rattle.refusals.proofs.Unique.{same_refusal, some_number}
+use Rattle.processes.specs.declared.Unfolding.{Unfolding}
 use Rattle.processes.specs.declared.Unfolded.{Unfolded}
+use Rattle.processes.specs.Numbers.{unfolded_numbers}
 use Rattle.processes.specs.Process.{ProcessGraph, templates, number}
 use Rattle.processes.specs.Unfolding.{process_checks, UnfoldingVerdict, Unfolds, UnfoldingAnswered, UnfoldingWritten}
 use Rattle.processes.proofs.Numbers.{place_found}
@@ -119,3 +125,20 @@ unfold_unique {g} {K} {ss₀ = ss₀} {ts₀} {ds₀} {Ds₀} {ss' = ss'} {ts' =
     let same = answered_unique pa pb in
     let w = subst (λ (x : Unfolded). UnfoldingWritten g K x ss₀ ts₀ ds₀ Ds₀ ss' ts' ds' Ds') (sym same) wb in
     (same, written_unique wa w)
+
+-- ---- results
+
+-- the numbers of a result tell the result
+pub told_by_numbers : (x y : Result Unfolding Refusal) → unfolded_numbers x ≡ unfolded_numbers y → x ≡ y
+told_by_numbers (Ok x) (Ok y) e = ap Ok (λ i. record { events = (e i).events; rules = (e i).rules })
+told_by_numbers (Ok x) (Err r) e = absurd (some_number r (λ i. (sym e i).refusal))
+told_by_numbers (Err r) (Ok y) e = absurd (some_number r (λ i. (e i).refusal))
+told_by_numbers (Err r) (Err q) e = ap Err (same_refusal r q (λ i. (e i).refusal) (λ i. (e i).place))
+
+pub unfold_result_unique : {g : ProcessGraph} {K : ℕ} {Short : Type 0} (x y : Result Unfolding Refusal) {ss₀ ts₀ : List ℕ} {ds₀ Ds₀ : List ℤ} {ss ss' ts ts' : List ℕ} {ds ds' Ds Ds' : List ℤ}
+    → UnfoldingAnswered g K Short (unfolded_numbers x) → UnfoldingWritten g K (unfolded_numbers x) ss₀ ts₀ ds₀ Ds₀ ss ts ds Ds
+    → UnfoldingAnswered g K Short (unfolded_numbers y) → UnfoldingWritten g K (unfolded_numbers y) ss₀ ts₀ ds₀ Ds₀ ss' ts' ds' Ds'
+    → (x ≡ y) × (SameRuleLists ss ss' ts ts' ds ds' Ds Ds')
+unfold_result_unique x y px wx py wy =
+    let (same, lists) = unfold_unique px wx py wy in
+    (told_by_numbers x y same, lists)

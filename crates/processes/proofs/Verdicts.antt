@@ -1,31 +1,35 @@
 -- The answer to an unfolding, put together from the checks.
 --     known_kept, inside_kept, start_kept              what a search calls good is kept
 --     kept_not_broken                                  a template's intervals are kept, or one is not, never both
---     lesser_search                                    the lesser of what the searches of the delays and of the start intervals find, for both at once
+--     lesser_search, lesser_found                      the lesser of what the searches of the delays and of the start intervals find, for both at once
 --     lowest_unknown, lowest_outside, lowest_broken    a search that stopped has found the lowest template that breaks the rule
---     process_counts, process_23 … process_7, process_0    the refusals, each from the facts that shut out the earlier ones, and that none applies
---     refusal_checked, kept_checked                    what check_process answers
---     kept_enough                                      as many places as rules are enough
+--     process_23 … process_7, process_0                the refusals, each from the facts that shut out the earlier ones, and that none applies
+--     refusal_checked, counts_checked, kept_checked    what check_process answers
 --     some_short, shortest                             one of four lists is too short exactly where the shortest is
---     answered_short                                   the answer for the four lists, from that for the shortest
+--     answered_lists                                   the answer for the four lists, from that for the shortest
 -- Assumes nothing.
-use mathlib.Core.Path.{◌≡◌, refl, sym, subst, subst₂}
+use Rattle.std.proofs.Common.{Ok, Err}
+use mathlib.Core.Path.{◌≡◌, refl, sym, subst, ◌∙◌}
 use mathlib.Core.Logic.{◌⊎◌, inl, inr, ⊎_elim}
 use Prim.Native.Nat.{ℕ, ◌+◌, ◌*◌, ◌<◌, ◌≤◌, min}
+use native.Mathlib.Decide.{dec_lt, dec_le}
 use native.Mathlib.Omega.{arith}
 use mathlib.Core.List.{List}
 use lib.IntN.{ℤ}
 use lib.ListN.{length}
-use Rattle.verdicts.specs.Verdict.{given, passed, Accepted, FirstOf, Lowest, LowestOr}
+use Rattle.verdicts.specs.Verdict.{given, passed, Accepted, FirstOf, Lowest, LowestOr, FoundAt}
 use Rattle.verdicts.proofs.Verdicts.{misses_at_zero, none_accepted, front_given, then_alike}
-use Rattle.verdicts.proofs.Searches.{lowest_bad, as_long}
+use Rattle.verdicts.proofs.Searches.{found_or, found_lowest, found_as_long, as_long}
 use Rattle.graphs.specs.Limits.{EndsKept, DelaysKept}
 use Rattle.refusals.specs.Faults.{EndsKnown, EndUnknown, DelaysInside, DelaysOutside}
-use Rattle.refusals.proofs.Unique.{known_not_unknown, inside_not_outside}
+use Rattle.refusals.specs.Numbers.{number_of, place_of}
+use Rattle.refusals.specs.declared.Refusal.{Refusal}
+use Rattle.refusals.proofs.Unique.{known_not_unknown, inside_not_outside, some_number}
 use Rattle.processes.specs.declared.Unfolded.{Unfolded}
+use Rattle.processes.specs.Numbers.{unfolded_numbers}
 use Rattle.processes.specs.Process.{ProcessGraph, templates, mark}
 use Rattle.processes.specs.Unfolding.{ShortRuleLists, short_sources, short_targets, short_leasts, short_mosts, UnknownTemplateEvent, TemplateDelayOutside, MarkOutside, process_checks, UnfoldingVerdict, UnfoldingAnswered}
-use Rattle.processes.specs.Parts.Checks.{ProcessCountsKept, process_count_checks, MarkKept, MarkBroken, StartKept, StartBroken, IntervalsKept, IntervalsBroken, TemplateKept, ProcessKept, ProcessChecked}
+use Rattle.processes.specs.Parts.Checks.{ProcessCountsKept, ListsKept, process_count_checks, MarkKept, MarkBroken, StartKept, StartBroken, IntervalsKept, IntervalsBroken, TemplateKept, TemplateBroken, ProcessKept, ProcessChecked}
 use Rattle.processes.proofs.Refusals.{plain, started, after_counts, short_first, ends_miss, delays_miss, process_none, short_alike, delays_first}
 
 module _ (g : ProcessGraph) where
@@ -62,40 +66,51 @@ module _ {ds Ds : List ℤ} {ms : List ℕ} {es Es : List ℤ} where
       broken l (inl e) = inl (subst (DelaysOutside ds Ds) (sym e) (x.bad (omega arith)))
       broken l (inr e) = inr (subst (StartBroken ms es Es) (sym e) (y.bad (omega arith)))
 
-module _ {g : ProcessGraph} {r : ℕ} where
-  pub lowest_unknown : length g.targets ≡ templates g →
-      LowestOr (min (length g.sources) (length g.targets)) (EndsKnown g.events g.sources g.targets) (EndUnknown g.events g.sources g.targets) r →
-      r < length g.sources →
-      Lowest (UnknownTemplateEvent g) r
-  lowest_unknown e h =
-      lowest_bad (UnknownTemplateEvent g) (λ j _ known u. known_not_unknown known u.unknown) (λ j l unknown. record { is_template = l; unknown = unknown }) (as_long e h)
+min_is_one : (a b : ℕ) → (min a b ≡ a) ⊎ (min a b ≡ b)
+min_is_one a b = go (dec_le a b)
+  where
+    go : Dec (a ≤ b) → (min a b ≡ a) ⊎ (min a b ≡ b)
+    go (yes l) = inl (omega arith)
+    go (no n) = inr (omega arith)
 
-  pub lowest_outside : length g.leasts ≡ templates g →
-      LowestOr (length g.leasts) (TemplateKept g) (IntervalsBroken g.leasts g.mosts g.marks g.start_leasts g.start_mosts) r →
-      r < length g.leasts →
-      Lowest (TemplateDelayOutside g) r
-  lowest_outside f =
-      lowest_bad
-      (TemplateDelayOutside g)
-      (λ j _ kept o. kept_not_broken kept (⊎_elim inl (λ b. inr (record { marked = b.0; outside = b.1 })) o.outside))
-      (λ j l broken. record { is_template = omega arith; outside = ⊎_elim inl (λ b. inr (b.marked, b.outside)) broken })
+module _ {g : ProcessGraph} where
+  -- the same of what the two searches find
+  pub lesser_found : {d e : ℕ} → ListsKept g →
+      FoundAt (min (length g.leasts) (length g.mosts)) (DelaysInside g.leasts g.mosts) (DelaysOutside g.leasts g.mosts) d →
+      FoundAt (length g.marks) (StartKept g.marks g.start_leasts g.start_mosts) (StartBroken g.marks g.start_leasts g.start_mosts) e →
+      FoundAt (templates g) (TemplateKept g) (TemplateBroken g) (min d e)
+  lesser_found {d} {e} lists x y =
+      let below : min d e < length g.leasts = omega (arith, x.below) in
+      let both =
+      lesser_search (lists.marks_match ∙ sym lists.leasts_match) (omega arith) (omega arith) (min_is_one d e)
+      (as_long (lists.mosts_match ∙ sym lists.leasts_match) (found_or x)) (found_or y) in
+      record { below = omega (arith, lists.leasts_match); before = both.before; bad = both.bad below }
 
-  pub lowest_broken : length g.marks ≡ templates g →
-      LowestOr (length g.marks) (MarkKept g.marks) (MarkBroken g.marks) r →
-      r < length g.marks →
-      Lowest (MarkOutside g) r
-  lowest_broken e =
-      lowest_bad
-      (MarkOutside g)
-      (λ j _ kept o. ⊎_elim o.not_zero o.not_one kept)
-      (λ j l broken. record { is_template = omega arith; not_zero = broken.not_zero; not_one = broken.not_one })
+  module _ {r : ℕ} where
+    pub lowest_unknown : length g.targets ≡ templates g →
+        FoundAt (min (length g.sources) (length g.targets)) (EndsKnown g.events g.sources g.targets) (EndUnknown g.events g.sources g.targets) r →
+        Lowest (UnknownTemplateEvent g) r
+    lowest_unknown e h =
+        found_lowest (UnknownTemplateEvent g) (λ j _ known u. known_not_unknown known u.unknown) (λ j l unknown. record { is_template = l; unknown = unknown })
+        (found_as_long _ _ e h)
+
+    pub lowest_outside : FoundAt (templates g) (TemplateKept g) (TemplateBroken g) r → Lowest (TemplateDelayOutside g) r
+    lowest_outside =
+        found_lowest
+        (TemplateDelayOutside g)
+        (λ j _ kept o. kept_not_broken kept (⊎_elim inl (λ b. inr (record { marked = b.0; outside = b.1 })) o.outside))
+        (λ j l broken. record { is_template = l; outside = ⊎_elim inl (λ b. inr (b.marked, b.outside)) broken })
+
+    pub lowest_broken : length g.marks ≡ templates g → FoundAt (length g.marks) (MarkKept g.marks) (MarkBroken g.marks) r → Lowest (MarkOutside g) r
+    lowest_broken e =
+        found_lowest
+        (MarkOutside g)
+        (λ j _ kept o. ⊎_elim o.not_zero o.not_one kept)
+        (λ j l broken. record { is_template = omega arith; not_zero = broken.not_zero; not_one = broken.not_one })
 
 -- ---- the verdict
 
 module _ {g : ProcessGraph} {K n : ℕ} where
-  pub process_counts : (k : ℕ) → (k ≡ 0 → ⊥) → FirstOf (process_count_checks g K) k 0 → UnfoldingVerdict g K (n < templates g * K) k 0
-  process_counts k some v = front_given (process_count_checks g K) _ k 0 some v
-
   pub process_23 : ProcessCountsKept g K → n < templates g * K → UnfoldingVerdict g K (n < templates g * K) 23 0
   process_23 counts l = short_first counts l
 
@@ -121,64 +136,61 @@ module _ {g : ProcessGraph} {K n : ℕ} where
 
   -- ---- what check_process answers
 
-  pub refusal_checked : (k p : ℕ) {a : Unfolded} → 0 < k →
-      (a.refusal ≡ k) × (a.place ≡ p) × (a.events ≡ 0) × (a.rules ≡ 0) →
-      UnfoldingVerdict g K (n < templates g * K) k p →
-      ProcessChecked g K n a
-  refusal_checked k p {a} positive r v =
+  pub refusal_checked : (r : Refusal) → UnfoldingVerdict g K (n < templates g * K) (number_of r) (place_of r) → ProcessChecked g K n (unfolded_numbers (Err r))
+  refusal_checked r v =
       record {
         answered =
             record {
-              verdict = subst₂ (UnfoldingVerdict g K (n < templates g * K)) (sym r.0) (sym r.1) v;
-              event_count = λ e. absurd (let no : ⊥ = omega (arith, r.0) in no);
-              rule_count = λ e. absurd (let no : ⊥ = omega (arith, r.0) in no);
-              no_events = λ _. r.2;
-              no_rules = λ _. r.3;
+              verdict = v;
+              event_count = λ e. absurd (some_number r e);
+              rule_count = λ e. absurd (some_number r e);
+              no_events = λ _. refl;
+              no_rules = λ _. refl;
             };
-        kept = λ e. absurd (let no : ⊥ = omega (arith, r.0) in no);
+        kept = λ e. absurd (some_number r e);
       }
 
-  pub kept_checked : {events rules : ℕ} →
-      events ≡ 1 + g.events * K →
-      rules ≡ templates g * K →
-      ((j : ℕ) → j < templates g → TemplateKept g j) →
-      ProcessKept g K n →
-      ProcessChecked g K n (record { refusal = 0; place = 0; events = events; rules = rules })
-  kept_checked e r inside k =
+  pub counts_checked : (r : Refusal) → FirstOf (process_count_checks g K) (number_of r) (place_of r) → ProcessChecked g K n (unfolded_numbers (Err r))
+  counts_checked r v = refusal_checked r (front_given (process_count_checks g K) _ _ _ (some_number r) v)
+
+  pub kept_checked : ((j : ℕ) → j < templates g → TemplateKept g j) → ProcessKept g K n → ProcessChecked g K n (unfolded_numbers (Ok (record { events = 1 + g.events * K; rules = templates g * K })))
+  kept_checked inside k =
       record {
         answered =
             record {
               verdict = process_0 k.counts k.room k.known inside k.marked;
-              event_count = λ _. e;
-              rule_count = λ _. r;
+              event_count = λ _. refl;
+              rule_count = λ _. refl;
               no_events = λ not. absurd (not refl);
               no_rules = λ not. absurd (not refl);
             };
         kept = λ _. k;
       }
 
-  pub kept_enough : ProcessKept g K n → ProcessKept g K (templates g * K)
-  kept_enough k = record { counts = k.counts; known = k.known; marked = k.marked; room = omega arith }
-
 -- ---- the four lists for the shortest
 
-module _ {g : ProcessGraph} {K n : ℕ} {ss ts : List ℕ} {ds Ds : List ℤ} where
-  pub some_short : (n ≡ length ss) ⊎ ((n ≡ length ts) ⊎ ((n ≡ length ds) ⊎ (n ≡ length Ds))) → n < templates g * K → ShortRuleLists g K ss ts ds Ds
-  some_short (inl e) l = short_sources (omega arith)
-  some_short (inr (inl e)) l = short_targets (omega arith)
-  some_short (inr (inr (inl e))) l = short_leasts (omega arith)
-  some_short (inr (inr (inr e))) l = short_mosts (omega arith)
+module _ {g : ProcessGraph} {K n : ℕ} {ss ts : List ℕ} {ds Ds : List ℤ} (least : n ≡ min (min (min (length ss) (length ts)) (length ds)) (length Ds)) where
+  some_short : n < templates g * K → ShortRuleLists g K ss ts ds Ds
+  some_short l = go (dec_lt (length ss) (templates g * K)) (dec_lt (length ts) (templates g * K)) (dec_lt (length ds) (templates g * K))
+    where
+      go : Dec (length ss < templates g * K) → Dec (length ts < templates g * K) → Dec (length ds < templates g * K) → ShortRuleLists g K ss ts ds Ds
+      go (yes s) _ _ = short_sources s
+      go (no s) (yes t) _ = short_targets t
+      go (no s) (no t) (yes d) = short_leasts d
+      go (no s) (no t) (no d) = short_mosts (omega arith)
 
-  pub shortest : n ≤ length ss → n ≤ length ts → n ≤ length ds → n ≤ length Ds → ShortRuleLists g K ss ts ds Ds → n < templates g * K
-  shortest s t d D (short_sources l) = omega arith
-  shortest s t d D (short_targets l) = omega arith
-  shortest s t d D (short_leasts l) = omega arith
-  shortest s t d D (short_mosts l) = omega arith
+  shortest : ShortRuleLists g K ss ts ds Ds → n < templates g * K
+  shortest (short_sources l) = omega arith
+  shortest (short_targets l) = omega arith
+  shortest (short_leasts l) = omega arith
+  shortest (short_mosts l) = omega arith
 
-module _ {g : ProcessGraph} {K : ℕ} {S S' : Type 0} where
-  verdict_short : (S → S') → (S' → S) → {k p : ℕ} → UnfoldingVerdict g K S k p → UnfoldingVerdict g K S' k p
-  verdict_short f b {k} {p} v = then_alike (short_alike f b) Accepted k p v
-
-  pub answered_short : (S → S') → (S' → S) → {a : Unfolded} → UnfoldingAnswered g K S a → UnfoldingAnswered g K S' a
-  answered_short f b h =
-      record { verdict = verdict_short f b h.verdict; event_count = h.event_count; rule_count = h.rule_count; no_events = h.no_events; no_rules = h.no_rules }
+  pub answered_lists : {a : Unfolded} → UnfoldingAnswered g K (n < templates g * K) a → UnfoldingAnswered g K (ShortRuleLists g K ss ts ds Ds) a
+  answered_lists h =
+      record {
+        verdict = then_alike (short_alike some_short shortest) Accepted _ _ h.verdict;
+        event_count = h.event_count;
+        rule_count = h.rule_count;
+        no_events = h.no_events;
+        no_rules = h.no_rules;
+      }

@@ -1,18 +1,16 @@
 -- The loop that writes the rules, one place a turn.
 --     rule_at                         a place that holds the four numbers of a template's rule holds its instance
 --     same_rule                       a place that is left alone holds what it held
---     RulesWriting g K … i k j        the places before i = k × templates + j are written, those from templates × K on are untouched
---     TemplateTurn g k j i            what a turn at template j of copy k may count on: its numbers are small
---     turn_kept                       each turn may
+--     RulesWriting g K … i            the places before i are written, those from templates × K on are untouched
 --     writing_none                    before the first turn
---     writing_more                    a turn writes place i, and goes on to the next template or to the first one of the next copy
+--     writing_more                    a turn writes place i = k × templates + j
 --     writing_done                    after the last turn all rules are written
---     lists_refused, lists_written    what `unfold` promises of the lists
+--     lists_written                   what `unfold` promises of the lists
 -- Assumes nothing.
-use mathlib.Core.Path.{◌≡◌, refl, sym, ◌∙◌, ap, subst, subst₂}
+use mathlib.Core.Path.{◌≡◌, refl, sym, ◌∙◌, subst, subst₂}
 use mathlib.Core.Logic.{inl, inr}
 use mathlib.Core.List.{List}
-use Prim.Native.Nat.{ℕ, suc, ◌+◌, ◌*◌, ◌-◌, ◌<◌, ◌≤◌, zero-le}
+use Prim.Native.Nat.{ℕ, suc, ◌+◌, ◌*◌, ◌-◌, ◌<◌, ◌≤◌}
 use native.Mathlib.Decide.{dec_lt, ℕ_discrete}
 use native.Mathlib.Omega.{arith}
 use lib.IntN.{ℤ, pos}
@@ -20,13 +18,12 @@ use lib.ListN.{length, get_or, take, drop, set, length-set}
 use lib.Seq.{get_or-set_same, get_or-set_other, drop-set-lt, get_or-take, length-take-le}
 use Rattle.graphs.specs.Graph as rule
 use Rattle.graphs.specs.Graph.{Graph, graph_of}
-use Rattle.refusals.specs.Faults.{EndsKnown}
 use Rattle.processes.specs.declared.Unfolded.{Unfolded}
 use Rattle.processes.specs.Process.{ProcessGraph, templates, source, target, least, most, mark, start_least, start_most, occurrence, root, at, Instance, together, onward, start}
 use Rattle.processes.specs.Unfolding.{RuleAt, Unfolds, UnfoldingWritten}
-use Rattle.processes.specs.Parts.Checks.{ProcessCountsKept, MarkKept, ProcessKept}
-use Rattle.processes.specs.Parts.Writing.{InstanceSource, InstanceDelay, InstanceWritten, InstancesWritten}
-use Rattle.processes.proofs.Products.{many, some_factor, copy_below, rule_below, same_copy}
+use Rattle.processes.specs.Parts.Checks.{MarkKept}
+use Rattle.processes.specs.Parts.Writing.{InstanceSource, InstanceDelay, InstanceRule, InstancesWritten}
+use Rattle.processes.proofs.Numbers.{places_apart, place_below}
 
 module _ {g : ProcessGraph} {k j : ℕ} where
   -- by the three cases of 01
@@ -82,11 +79,8 @@ module _ {g : ProcessGraph} {k j : ℕ} where
         instance = subst₂ (Instance g k j r.from r.to) (sym d) (sym D) r.instance;
       }
 
-pub record RulesWriting (g : ProcessGraph) (K : ℕ) (ss₀ ts₀ : List ℕ) (ds₀ Ds₀ : List ℤ) (ss ts : List ℕ) (ds Ds : List ℤ) (i k j : ℕ) : Type 0 where
-  pub within : i ≤ templates g * K
-  pub place : i ≡ k * templates g + j
-  pub template : 0 < templates g → j < templates g
-  pub each : (k' j' : ℕ) → j' < templates g → k' * templates g + j' < i → RuleAt g k' j' (graph_of (1 + g.events * K) ss ts ds Ds) (k' * templates g + j')
+pub record RulesWriting (g : ProcessGraph) (K : ℕ) (ss₀ ts₀ : List ℕ) (ds₀ Ds₀ : List ℤ) (ss ts : List ℕ) (ds Ds : List ℤ) (i : ℕ) : Type 0 where
+  pub each : (k j : ℕ) → j < templates g → k * templates g + j < i → RuleAt g k j (graph_of (1 + g.events * K) ss ts ds Ds) (k * templates g + j)
   pub sources_beyond : drop (templates g * K) ss ≡ drop (templates g * K) ss₀
   pub targets_beyond : drop (templates g * K) ts ≡ drop (templates g * K) ts₀
   pub leasts_beyond : drop (templates g * K) ds ≡ drop (templates g * K) ds₀
@@ -96,47 +90,15 @@ pub record RulesWriting (g : ProcessGraph) (K : ℕ) (ss₀ ts₀ : List ℕ) (d
   pub leasts_length : length ds ≡ length ds₀
   pub mosts_length : length Ds ≡ length Ds₀
 
-pub record TemplateTurn (g : ProcessGraph) (k j i : ℕ) : Type 0 where
-  pub few_templates : templates g ≤ 4096
-  pub is_template : j < templates g
-  pub copy_small : k < 1024
-  pub place_small : i < 4096
-  pub source_small : k * g.events + (source g j).0 < 1024
-  pub target_small : k * g.events + (target g j).0 < 1024
-  pub marked : MarkKept g.marks j
+module _ {A : Type 0} (l : List A) (i : ℕ) (x : A) where
+  put_other : (d : A) (m : ℕ) → m < i → get_or (set l i x) m d ≡ get_or l m d
+  put_other d m h = get_or-set_other l i m x d (λ same. let z : ⊥ = omega arith in z)
 
-pub turn_kept : {g : ProcessGraph} {K n : ℕ} {ss₀ ts₀ : List ℕ} {ds₀ Ds₀ : List ℤ} {ss ts : List ℕ} {ds Ds : List ℤ} {i k j : ℕ} →
-    ProcessKept g K n →
-    RulesWriting g K ss₀ ts₀ ds₀ Ds₀ ss ts ds Ds i k j →
-    i < templates g * K →
-    TemplateTurn g k j i
-turn_kept {g} {K} {i = i} {k = k} {j = j} kept w l =
-    let lj : j < templates g = w.template (some_factor (templates g) K i l) in
-    let lk : k < K = copy_below (templates g) K k j (omega arith) in
-    let known : EndsKnown g.events g.sources g.targets j = kept.known j lj in
-    let counts : ProcessCountsKept g K = kept.counts in
-    record {
-      few_templates = omega (arith, many (templates g) K counts.some_copy, counts.few_rules);
-      is_template = lj;
-      copy_small = omega (arith, many K g.events counts.some_event, counts.few_occurrences);
-      place_small = omega (arith, counts.few_rules);
-      source_small = omega (arith, rule_below g.events K k (source g j).0 lk known.source_known, counts.few_occurrences);
-      target_small = omega (arith, rule_below g.events K k (target g j).0 lk known.target_known, counts.few_occurrences);
-      marked = kept.marked j lj;
-    }
+  put_beyond : (n : ℕ) (old : List A) → i < n → drop n l ≡ drop n old → drop n (set l i x) ≡ drop n old
+  put_beyond n old h same = drop-set-lt n l i x h ∙ same
 
-module _ {A : Type 0} (l l' : List A) (i : ℕ) (x : A) (e : l' ≡ set l i x) where
-  put_here : (d : A) → i < length l → get_or l' i d ≡ x
-  put_here d h = ap (λ (m : List A). get_or m i d) e ∙ get_or-set_same l i x d h
-
-  put_other : (d : A) (m : ℕ) → m < i → get_or l' m d ≡ get_or l m d
-  put_other d m h = ap (λ (n : List A). get_or n m d) e ∙ get_or-set_other l i m x d (λ same. let z : ⊥ = omega arith in z)
-
-  put_beyond : (n : ℕ) (old : List A) → i < n → drop n l ≡ drop n old → drop n l' ≡ drop n old
-  put_beyond n old h same = ap (drop n) e ∙ drop-set-lt n l i x h ∙ same
-
-  put_length : (old : List A) → length l ≡ length old → length l' ≡ length old
-  put_length old same = ap length e ∙ length-set l i x ∙ same
+  put_length : (old : List A) → length l ≡ length old → length (set l i x) ≡ length old
+  put_length old same = length-set l i x ∙ same
 
 -- a place is one copy's and one template's
 moved : {g : ProcessGraph} {G : Graph} {k j i : ℕ} (k' j' : ℕ) → k' ≡ k → j' ≡ j → k' * templates g + j' ≡ i → RuleAt g k j G i → RuleAt g k' j' G (k' * templates g + j')
@@ -145,13 +107,10 @@ moved {g} {G} {k} {j} {i} k' j' ek ej ei r =
     (subst (λ (x : ℕ). RuleAt g x j' G i) (sym ek) (subst (λ (x : ℕ). RuleAt g k x G i) (sym ej) r))
 
 module _ {g : ProcessGraph} {K : ℕ} {ss₀ ts₀ : List ℕ} {ds₀ Ds₀ : List ℤ} where
-  pub writing_none : RulesWriting g K ss₀ ts₀ ds₀ Ds₀ ss₀ ts₀ ds₀ Ds₀ 0 0 0
+  pub writing_none : RulesWriting g K ss₀ ts₀ ds₀ Ds₀ ss₀ ts₀ ds₀ Ds₀ 0
   writing_none =
       record {
-        within = zero-le;
-        place = omega arith;
-        template = λ l. l;
-        each = λ k' j' l h. absurd (let z : ⊥ = omega arith in z);
+        each = λ k j l h. absurd (let z : ⊥ = omega arith in z);
         sources_beyond = refl;
         targets_beyond = refl;
         leasts_beyond = refl;
@@ -162,70 +121,71 @@ module _ {g : ProcessGraph} {K : ℕ} {ss₀ ts₀ : List ℕ} {ds₀ Ds₀ : Li
         mosts_length = refl;
       }
 
-  module _ (room : (templates g * K ≤ length ss₀) × (templates g * K ≤ length ts₀) × (templates g * K ≤ length ds₀) × (templates g * K ≤ length Ds₀)) {ss ts : List ℕ} {ds Ds : List ℤ} {ss' ts' : List ℕ} {ds' Ds' : List ℤ} {i k j : ℕ} where
+  module _ (room : (templates g * K ≤ length ss₀) × (templates g * K ≤ length ts₀) × (templates g * K ≤ length ds₀) × (templates g * K ≤ length Ds₀)) {ss ts : List ℕ} {ds Ds : List ℤ} {i k j s t : ℕ} {d D : ℤ} where
     -- the place that the turn writes
-    written_here : RulesWriting g K ss₀ ts₀ ds₀ Ds₀ ss ts ds Ds i k j → i < templates g * K →
-        InstanceWritten g k j i ss ts ds Ds ss' ts' ds' Ds' →
+    written_here : RulesWriting g K ss₀ ts₀ ds₀ Ds₀ ss ts ds Ds i → i < templates g * K →
+        InstanceRule g k j s t d D →
         MarkKept g.marks j →
-        RuleAt g k j (graph_of (1 + g.events * K) ss' ts' ds' Ds') i
+        RuleAt g k j (graph_of (1 + g.events * K) (set ss i s) (set ts i t) (set ds i d) (set Ds i D)) i
     written_here w l r m =
         rule_at
-        (graph_of (1 + g.events * K) ss' ts' ds' Ds')
+        (graph_of (1 + g.events * K) (set ss i s) (set ts i t) (set ds i d) (set Ds i D))
         i
-        (subst (InstanceSource g.events k (mark g j) (source g j).0) (sym (put_here ss ss' i r.s r.sources_set 0 (omega arith))) r.source_at)
-        (put_here ts ts' i r.t r.targets_set 0 (omega arith) ∙ r.target_at)
-        (subst (InstanceDelay k (mark g j) (least g j) (start_least g j)) (sym (put_here ds ds' i r.d r.leasts_set (pos 0) (omega arith))) r.least_at)
-        (subst (InstanceDelay k (mark g j) (most g j) (start_most g j)) (sym (put_here Ds Ds' i r.D r.mosts_set (pos 0) (omega arith))) r.most_at)
+        (subst (InstanceSource g.events k (mark g j) (source g j).0) (sym (get_or-set_same ss i s 0 (omega (arith, w.sources_length)))) r.source_at)
+        (get_or-set_same ts i t 0 (omega (arith, w.targets_length)) ∙ r.target_at)
+        (subst (InstanceDelay k (mark g j) (least g j) (start_least g j)) (sym (get_or-set_same ds i d (pos 0) (omega (arith, w.leasts_length)))) r.least_at)
+        (subst (InstanceDelay k (mark g j) (most g j) (start_most g j)) (sym (get_or-set_same Ds i D (pos 0) (omega (arith, w.mosts_length)))) r.most_at)
         m
 
-    pub writing_more : RulesWriting g K ss₀ ts₀ ds₀ Ds₀ ss ts ds Ds i k j →
-        i < templates g * K →
+    pub writing_more : RulesWriting g K ss₀ ts₀ ds₀ Ds₀ ss ts ds Ds i →
+        i ≡ k * templates g + j →
+        k < K →
         j < templates g →
-        InstanceWritten g k j i ss ts ds Ds ss' ts' ds' Ds' →
+        InstanceRule g k j s t d D →
         MarkKept g.marks j →
-        (k⁺ j⁺ : ℕ) → i + 1 ≡ k⁺ * templates g + j⁺ → j⁺ < templates g →
-        RulesWriting g K ss₀ ts₀ ds₀ Ds₀ ss' ts' ds' Ds' (i + 1) k⁺ j⁺
-    writing_more w l lj r m k⁺ j⁺ e h =
+        RulesWriting g K ss₀ ts₀ ds₀ Ds₀ (set ss i s) (set ts i t) (set ds i d) (set Ds i D) (k * templates g + (j + 1))
+    writing_more w e lk lj r m =
         record {
-          within = omega arith;
-          place = e;
-          template = λ _. h;
           each = each;
-          sources_beyond = put_beyond ss ss' i r.s r.sources_set _ ss₀ l w.sources_beyond;
-          targets_beyond = put_beyond ts ts' i r.t r.targets_set _ ts₀ l w.targets_beyond;
-          leasts_beyond = put_beyond ds ds' i r.d r.leasts_set _ ds₀ l w.leasts_beyond;
-          mosts_beyond = put_beyond Ds Ds' i r.D r.mosts_set _ Ds₀ l w.mosts_beyond;
-          sources_length = put_length ss ss' i r.s r.sources_set ss₀ w.sources_length;
-          targets_length = put_length ts ts' i r.t r.targets_set ts₀ w.targets_length;
-          leasts_length = put_length ds ds' i r.d r.leasts_set ds₀ w.leasts_length;
-          mosts_length = put_length Ds Ds' i r.D r.mosts_set Ds₀ w.mosts_length;
+          sources_beyond = put_beyond ss i s _ ss₀ l w.sources_beyond;
+          targets_beyond = put_beyond ts i t _ ts₀ l w.targets_beyond;
+          leasts_beyond = put_beyond ds i d _ ds₀ l w.leasts_beyond;
+          mosts_beyond = put_beyond Ds i D _ Ds₀ l w.mosts_beyond;
+          sources_length = put_length ss i s ss₀ w.sources_length;
+          targets_length = put_length ts i t ts₀ w.targets_length;
+          leasts_length = put_length ds i d ds₀ w.leasts_length;
+          mosts_length = put_length Ds i D Ds₀ w.mosts_length;
         }
       where
-        each : (k' j' : ℕ) → j' < templates g → k' * templates g + j' < i + 1 → RuleAt g k' j' (graph_of (1 + g.events * K) ss' ts' ds' Ds') (k' * templates g + j')
+        l : i < templates g * K
+        l = omega (arith, place_below (templates g) K k j lk lj)
+
+        after : Graph
+        after = graph_of (1 + g.events * K) (set ss i s) (set ts i t) (set ds i d) (set Ds i D)
+
+        each : (k' j' : ℕ) → j' < templates g → k' * templates g + j' < k * templates g + (j + 1) → RuleAt g k' j' after (k' * templates g + j')
         each k' j' l' b = go (dec_lt (k' * templates g + j') i)
           where
-            go : Dec (k' * templates g + j' < i) → RuleAt g k' j' (graph_of (1 + g.events * K) ss' ts' ds' Ds') (k' * templates g + j')
+            go : Dec (k' * templates g + j' < i) → RuleAt g k' j' after (k' * templates g + j')
             go (yes y) =
                 same_rule
                 (graph_of (1 + g.events * K) ss ts ds Ds)
-                (graph_of (1 + g.events * K) ss' ts' ds' Ds')
+                after
                 (k' * templates g + j')
-                (put_other ss ss' i r.s r.sources_set 0 _ y)
-                (put_other ts ts' i r.t r.targets_set 0 _ y)
-                (put_other ds ds' i r.d r.leasts_set (pos 0) _ y)
-                (put_other Ds Ds' i r.D r.mosts_set (pos 0) _ y)
+                (put_other ss i s 0 _ y)
+                (put_other ts i t 0 _ y)
+                (put_other ds i d (pos 0) _ y)
+                (put_other Ds i D (pos 0) _ y)
                 (w.each k' j' l' y)
             go (no n) =
                 let here : k' * templates g + j' ≡ i = omega arith in
-                let e' : k' * templates g + j' ≡ k * templates g + j = here ∙ w.place in
-                let ek : k' ≡ k = omega (arith, same_copy (templates g) k j k' j' lj l' e', same_copy (templates g) k' j' k j l' lj (sym e')) in
-                let ej : j' ≡ j = omega (arith, ap (λ (x : ℕ). x * templates g) ek) in
+                let (ek, ej) = places_apart (templates g) k' k j' j l' lj (here ∙ e) in
                 moved k' j' ek ej here (written_here w l r m)
 
-  pub writing_done : {ss ts : List ℕ} {ds Ds : List ℤ} {i k j : ℕ} → RulesWriting g K ss₀ ts₀ ds₀ Ds₀ ss ts ds Ds i k j → templates g * K ≤ i → InstancesWritten g K ss₀ ts₀ ds₀ Ds₀ ss ts ds Ds
+  pub writing_done : {ss ts : List ℕ} {ds Ds : List ℤ} {i : ℕ} → RulesWriting g K ss₀ ts₀ ds₀ Ds₀ ss ts ds Ds i → templates g * K ≤ i → InstancesWritten g K ss₀ ts₀ ds₀ Ds₀ ss ts ds Ds
   writing_done w l =
       record {
-        each = λ k' j' lk lj. w.each k' j' lj (omega (arith, rule_below (templates g) K k' j' lk lj));
+        each = λ k j lk lj. w.each k j lj (omega (arith, place_below (templates g) K k j lk lj));
         sources_beyond = w.sources_beyond;
         targets_beyond = w.targets_beyond;
         leasts_beyond = w.leasts_beyond;
@@ -234,21 +194,6 @@ module _ {g : ProcessGraph} {K : ℕ} {ss₀ ts₀ : List ℕ} {ds₀ Ds₀ : Li
       }
 
   -- ---- what unfold promises of the lists
-
-  pub lists_refused : {a : Unfolded} → (a.refusal ≡ 0 → ⊥) → UnfoldingWritten g K a ss₀ ts₀ ds₀ Ds₀ ss₀ ts₀ ds₀ Ds₀
-  lists_refused n =
-      record {
-        unfolds = λ e. absurd (n e);
-        sources_beyond = λ _. refl;
-        targets_beyond = λ _. refl;
-        leasts_beyond = λ _. refl;
-        mosts_beyond = λ _. refl;
-        sources_kept = λ _. refl;
-        targets_kept = λ _. refl;
-        leasts_kept = λ _. refl;
-        mosts_kept = λ _. refl;
-        lengths_kept = (refl, refl, refl, refl);
-      }
 
   module _ (room : (templates g * K ≤ length ss₀) × (templates g * K ≤ length ts₀) × (templates g * K ≤ length ds₀) × (templates g * K ≤ length Ds₀)) {ss ts : List ℕ} {ds Ds : List ℤ} where
     unfolded : InstancesWritten g K ss₀ ts₀ ds₀ Ds₀ ss ts ds Ds →
@@ -262,7 +207,7 @@ module _ {g : ProcessGraph} {K : ℕ} {ss₀ ts₀ : List ℕ} {ds₀ Ds₀ : Li
           mosts_count = length-take-le _ Ds (omega (arith, w.lengths_kept.3));
           each =
               λ k j lk lj.
-              let b : k * templates g + j < templates g * K = rule_below (templates g) K k j lk lj in
+              let b : k * templates g + j < templates g * K = place_below (templates g) K k j lk lj in
               same_rule
               (graph_of (1 + g.events * K) ss ts ds Ds)
               (graph_of (1 + g.events * K) (take (templates g * K) ss) (take (templates g * K) ts) (take (templates g * K) ds) (take (templates g * K) Ds))

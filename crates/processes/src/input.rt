@@ -1,103 +1,57 @@
 // The answer to an unfolding: the refusals 21, 22, 24, 23, 2, 3, 7 in this order, or both counts.
-ghost use Rattle.std.specs.Prelude.{◌≡◌, ◌⊎◌, ℕ, ◌<◌, ◌≤◌, length};
-ghost use Rattle.verdicts.specs.Verdict.{LowestOr};
-ghost use Rattle.processes.specs.Process.{process_of};
-ghost use Rattle.processes.specs.Parts.Checks.{IntervalsKept, IntervalsBroken, ProcessChecked};
+ghost use Rattle.std.specs.Prelude.{◌≡◌, length};
+ghost use Rattle.verdicts.specs.Verdict.{LowestIn};
+ghost use Rattle.processes.specs.Lists.{process_in};
+ghost use Rattle.processes.specs.Numbers.{unfolded_numbers};
+ghost use Rattle.processes.specs.Process.{templates};
+ghost use Rattle.processes.specs.Parts.Checks.{ListsKept, TemplateKept, TemplateBroken, ProcessChecked};
 
-use crate::Unfolded;
 use crate::checks::{broken_mark, check_counts, outside_start};
+use crate::{ProcessLists, Unfolding};
+use refusals::Refusal;
 
-// Refusal `number` at `place`: both counts are 0.
-fn refused(number: usize, place: usize) -> Unfolded
-    ensures { (result.refusal ≡ number) × (result.place ≡ place) × (result.events ≡ 0) × (result.rules ≡ 0) }
+// The lowest template whose delays are outside or, with mark 1, whose start interval is.
+fn outside_interval(process: &ProcessLists<'_>) -> Option<usize>
+    requires { ListsKept (process_in process.now) }
+    ensures { LowestIn (templates (process_in process.now)) (TemplateKept (process_in process.now)) (TemplateBroken (process_in process.now)) result }
 {
-    Unfolded {
-        refusal: number,
-        place,
-        events: 0,
-        rules: 0,
+    let delays = refusals::outside_delay(process.leasts, process.mosts);
+    let starts = outside_start(process.marks, process.start_leasts, process.start_mosts);
+    match (delays, starts) {
+        (Some(delay), Some(start)) => Some(delay.min(start)),
+        (Some(delay), None) => Some(delay),
+        (None, start) => start,
     }
-}
-
-// The lesser of two numbers.
-fn lesser(a: usize, b: usize) -> usize
-    ensures { (result ≤ a) × (result ≤ b) × ((result ≡ a) ⊎ (result ≡ b)) }
-{
-    if a < b { a } else { b }
-}
-
-// The least of four numbers: how many places the shortest of four lists has.
-pub(crate) fn fewest(a: usize, b: usize, c: usize, d: usize) -> usize
-    ensures { (result ≤ a) × (result ≤ b) × (result ≤ c) × (result ≤ d) × ((result ≡ a) ⊎ ((result ≡ b) ⊎ ((result ≡ c) ⊎ (result ≡ d)))) }
-{
-    lesser(a, lesser(b, lesser(c, d)))
-}
-
-// The lowest template whose delays are outside or, with mark 1, whose start interval is; or the number of templates.
-fn outside_interval(
-    leasts: &[i64],
-    mosts: &[i64],
-    marks: &[usize],
-    start_leasts: &[i64],
-    start_mosts: &[i64],
-) -> usize
-    requires { (length mosts.now ≡ length leasts.now) × (length marks.now ≡ length leasts.now) × (length start_leasts.now ≡ length marks.now) × (length start_mosts.now ≡ length marks.now) }
-    ensures { LowestOr (length leasts.now) (IntervalsKept leasts.now mosts.now marks.now start_leasts.now start_mosts.now) (IntervalsBroken leasts.now mosts.now marks.now start_leasts.now start_mosts.now) result }
-{
-    let delays = refusals::outside_delay(leasts, mosts);
-    let starts = outside_start(marks, start_leasts, start_mosts);
-    lesser(delays, starts)
 }
 
 // The answer, where the shortest lent list has `places` places.
 pub(crate) fn check_process(
-    p: usize,
+    process: &ProcessLists<'_>,
     copies: usize,
-    sources: &[usize],
-    targets: &[usize],
-    leasts: &[i64],
-    mosts: &[i64],
-    marks: &[usize],
-    start_leasts: &[i64],
-    start_mosts: &[i64],
     places: usize,
-) -> Unfolded
-    ensures { ProcessChecked (process_of p sources.now targets.now leasts.now mosts.now marks.now start_leasts.now start_mosts.now) copies places result }
+) -> Result<Unfolding, Refusal>
+    ensures { ProcessChecked (process_in process.now) copies places (unfolded_numbers result) }
 {
-    let counts = check_counts(
-        p,
-        copies,
-        sources,
-        targets,
-        leasts,
-        mosts,
-        marks,
-        start_leasts,
-        start_mosts,
-    );
-    if counts != 0 {
-        return refused(counts, 0);
-    }
-    let rules = sources.len() * copies;
+    check_counts(process, copies)?;
+    let rules = process.sources.len() * copies;
     if places < rules {
-        return refused(23, 0);
+        return Err(Refusal::ShortList);
     }
-    let unknown = refusals::unknown_event(p, sources, targets);
-    if unknown < sources.len() {
-        return refused(2, unknown);
+    if let Some(template) = refusals::unknown_event(
+        process.events,
+        process.sources,
+        process.targets,
+    ) {
+        return Err(Refusal::UnknownEvent(template));
     }
-    let outside = outside_interval(leasts, mosts, marks, start_leasts, start_mosts);
-    if outside < leasts.len() {
-        return refused(3, outside);
+    if let Some(template) = outside_interval(process) {
+        return Err(Refusal::DelayOutside(template));
     }
-    let broken = broken_mark(marks);
-    if broken < marks.len() {
-        return refused(7, broken);
+    if let Some(template) = broken_mark(process.marks) {
+        return Err(Refusal::MarkOutside(template));
     }
-    Unfolded {
-        refusal: 0,
-        place: 0,
-        events: 1 + p * copies,
+    Ok(Unfolding {
+        events: 1 + process.events * copies,
         rules,
-    }
+    })
 }

@@ -1,5 +1,5 @@
 -- The verdict on a question, from what the searches find.
---     lowest_unknown, all_ends_kept        what the search for an unknown event tells of the graph, by whether it stopped before the end
+--     lowest_unknown, all_ends_kept        what the search for an unknown event tells of the graph, by whether it found one
 --     lowest_beyond, all_delays_kept       the same of the search for a delay beyond the bound
 --     input_2 … input_4_target             refusals 2 to 4, each from the facts that shut out the earlier ones
 --     QuestionKept b g s t, none_kept, question_kept    what is kept where none applies
@@ -11,9 +11,9 @@ use Prim.Native.Nat.{ℕ, ◌<◌, ◌≤◌, min}
 use native.Mathlib.Omega.{arith}
 use lib.IntN.{ℤ}
 use lib.ListN.{length}
-use Rattle.verdicts.specs.Verdict.{given, passed, FirstThen, FirstOf, Lowest, LowestOr}
+use Rattle.verdicts.specs.Verdict.{given, passed, FirstThen, FirstOf, Lowest, FoundAt}
 use Rattle.verdicts.proofs.Verdicts.{NoneApplies, misses_at_zero, none_accepted, accepted_none}
-use Rattle.verdicts.proofs.Searches.{lowest_bad, all_good, as_long}
+use Rattle.verdicts.proofs.Searches.{found_lowest, found_as_long}
 use Rattle.graphs.specs.Graph.{Graph, graph_of, rules}
 use Rattle.graphs.specs.Limits.{CountsKept, EndsKept, DelaysKept, Sized}
 use Rattle.graphs.specs.Refusal.{UnknownEvent, DelayBeyond, MissingEnd, source_missing, target_missing, question_checks_to}
@@ -23,43 +23,39 @@ use Rattle.refusals.proofs.Unique.{known_not_unknown, inside_not_outside}
 
 -- ---- the searches
 
-module _ {n : ℕ} {ss ts : List ℕ} {ds Ds : List ℤ} {r : ℕ} where
-  pub lowest_unknown : length ts ≡ length ss →
-      LowestOr (min (length ss) (length ts)) (EndsKnown n ss ts) (EndUnknown n ss ts) r →
-      r < length ss →
+module _ {n : ℕ} {ss ts : List ℕ} {ds Ds : List ℤ} where
+  pub lowest_unknown : {r : ℕ} → length ts ≡ length ss →
+      FoundAt (min (length ss) (length ts)) (EndsKnown n ss ts) (EndUnknown n ss ts) r →
       Lowest (UnknownEvent (graph_of n ss ts ds Ds)) r
   lowest_unknown e h =
-      lowest_bad
+      found_lowest
       (UnknownEvent (graph_of n ss ts ds Ds))
       (λ i _ known u. known_not_unknown known u.unknown)
       (λ i l unknown. record { is_rule = l; unknown = unknown })
-      (as_long e h)
+      (found_as_long _ _ e h)
 
   pub all_ends_kept : length ts ≡ length ss →
-      LowestOr (min (length ss) (length ts)) (EndsKnown n ss ts) (EndUnknown n ss ts) r →
-      length ss ≤ r →
+      ((i : ℕ) → i < min (length ss) (length ts) → EndsKnown n ss ts i) →
       (i : ℕ) → i < length ss → EndsKept (graph_of n ss ts ds Ds) i
-  all_ends_kept e h l i m = let known = all_good (as_long e h) l i m in record { source_known = known.source_known; target_known = known.target_known }
+  all_ends_kept e h i m = let known = h i (omega arith) in record { source_known = known.source_known; target_known = known.target_known }
 
-  pub lowest_beyond : {b : ℕ} → length Ds ≡ length ds →
+  pub lowest_beyond : {b r : ℕ} → length Ds ≡ length ds →
       length ds ≡ length ss →
-      LowestOr (min (length ds) (length Ds)) (DelaysBounded b ds Ds) (DelaysBeyond b ds Ds) r →
-      r < length ds →
+      FoundAt (min (length ds) (length Ds)) (DelaysBounded b ds Ds) (DelaysBeyond b ds Ds) r →
       Lowest (DelayBeyond b (graph_of n ss ts ds Ds)) r
   lowest_beyond {b} e f h =
-      lowest_bad
+      found_lowest
       (DelayBeyond b (graph_of n ss ts ds Ds))
       (λ i _ inside o. inside_not_outside inside o.outside)
       (λ i l outside. record { is_rule = omega arith; outside = outside })
-      (as_long e h)
+      (found_as_long _ _ e h)
 
   pub all_delays_kept : {b : ℕ} → length Ds ≡ length ds →
       length ds ≡ length ss →
-      LowestOr (min (length ds) (length Ds)) (DelaysBounded b ds Ds) (DelaysBeyond b ds Ds) r →
-      length ds ≤ r →
+      ((i : ℕ) → i < min (length ds) (length Ds) → DelaysBounded b ds Ds i) →
       (i : ℕ) → i < length ss → DelaysKept b (graph_of n ss ts ds Ds) i
-  all_delays_kept e f h l i m =
-      let inside = all_good (as_long e h) l i (omega arith) in
+  all_delays_kept e f h i m =
+      let inside = h i (omega arith) in
       record { least_within = inside.least_within; most_within = inside.most_within; ordered = inside.ordered }
 
 -- ---- refusals 2 to 4

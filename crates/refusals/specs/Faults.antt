@@ -11,7 +11,7 @@
 --     DelaysChecked b d D x       == x is true and d or D is beyond b, or x is false and both are bounded
 -- n events, entries with sources ss, targets ts, least delays ds and most delays Ds. The lists may differ in length: there are as many entries as the
 -- shorter has. Assumes nothing.
-use Rattle.std.specs.Prelude.{◌≡◌, Bool, true, false, ◌⊎◌, List, ℕ, ◌<◌, ◌≤◌, ℤ, pos, ◌≤ℤ◌, get_or}
+use Rattle.std.specs.Prelude.{Bool, true, false, ◌⊎◌, List, ℕ, ◌<◌, ◌≤◌, ℤ, pos, ◌≤ℤ◌, get_or}
 use Rattle.integers.specs.Within.{Within}
 use Rattle.graphs.specs.Refusal.{BeyondDelays}
 
@@ -45,6 +45,6 @@ DelaysInside ds Ds i = DelaysBounded 1000000 ds Ds i
 abbrev pub DelaysOutside : List ℤ → List ℤ → ℕ → Type 0
 DelaysOutside ds Ds i = DelaysBeyond 1000000 ds Ds i
 
-pub record DelaysChecked (b : ℕ) (d D : ℤ) (x : Bool) : Type 0 where
-  pub outside : x ≡ true → BeyondDelays b d D
-  pub inside : x ≡ false → BoundedDelays b d D
+abbrev pub DelaysChecked : ℕ → ℤ → ℤ → Bool → Type 0
+DelaysChecked b d D true = BeyondDelays b d D
+DelaysChecked b d D false = BoundedDelays b d D

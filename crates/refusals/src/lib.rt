@@ -1,98 +1,144 @@
-// The refusals that can be given before any path is looked at: of an entry of a rule list, of the counts, and of a whole question. Event graphs and process
-// graphs share the searches.
-//     unknown_event    the lowest entry with an event that doesn't exist, or the end
-//     outside_delay    the lowest entry with a delay out of range, or a least delay above the most, or the end
-//     interval_outside whether one interval has a delay out of range, or a least delay above the most
+// Refusals: why a request is turned down, and those that can be given before any path is looked at: of an entry of a rule list, of the counts, and of a whole
+// question. Event graphs and process graphs share the searches.
+//     Refusal          the refusals, each with its number and its place
+//     unknown_event    the lowest entry with an event that doesn't exist
+//     outside_delay    the lowest entry with a delay out of range, or a least delay above the most
+//     delays_beyond    whether one of two delays is beyond a bound, or the least is above the most
+//     interval_outside the same with the bound of delays that are not rounded
+//     delay_limit      the bound of the delays where a caller names a limit
 //     check_counts     refusal 21 or 22, where a count of a graph is outside its limits
 //     check_input      the first of the refusals 21, 22 and 2 to 4 that applies to a question about two events
 // No caller is trusted: a search looks at lists of different lengths as far as both go. The promises are in specs/.
 #![tactic(auto)]
 
-ghost use Rattle.std.specs.Prelude.{◌≡◌, ◌≤◌, min, length};
-ghost use Rattle.verdicts.specs.Verdict.{LowestOr, FirstOf};
-ghost use Rattle.graphs.specs.Graph.{graph_of};
+ghost use Rattle.std.specs.Prelude.{◌≡◌, min, length};
+ghost use Rattle.verdicts.specs.Verdict.{LowestIn};
+ghost use Rattle.graphs.specs.Lists.{graph_in};
 ghost use Rattle.graphs.specs.Refusal.{count_checks, question_checks_to};
+ghost use Rattle.refusals.specs.Numbers.{number_of, place_of, Refuses};
 ghost use Rattle.refusals.specs.Faults.{EndsKnown, EndUnknown, DelaysChecked, DelaysBounded, DelaysBeyond, DelaysInside, DelaysOutside};
 ghost use Rattle.refusals.specs.Question.{delay_limit};
+
+use graphs::GraphLists;
 
 const MAX_EVENTS: usize = 1024;
 
 const MAX_RULES: usize = 4096;
 
-// The refusal of a number of events outside its limits, and of rules that are too many or whose lists differ in length.
-const EVENTS_OUTSIDE: usize = 21;
+const MAX_DELAY: u32 = 1000000;
 
-const RULES_OUTSIDE: usize = 22;
+const MAX_ROUNDED: u32 = 1001000;
 
-const MAX_DELAY: usize = 1000000;
-
-const MAX_ROUNDED: usize = 1001000;
-
-// A refusal: a number of document 01's table, with its place. The number 0 says that there is none.
-#[derive(Clone, Copy)]
-pub struct Refusal {
-    pub number: usize,
-    pub place: usize,
+// Why a request is refused, with the place where a refusal has one.
+#[derive(Clone, Copy, Debug, PartialEq, Eq)]
+pub enum Refusal {
+    // 1: a text is longer than a text may be.
+    BytesOutside,
+    // 2: the entry names an event that doesn't exist.
+    UnknownEvent(usize),
+    // 3: a delay of the entry is out of range, or its least delay is above its most.
+    DelayOutside(usize),
+    // 4, place 0: the event s of a question doesn't exist.
+    UnknownSource,
+    // 4, place 1: its event t doesn't exist.
+    UnknownTarget,
+    // 5: the event lies on a cycle.
+    Cycle(usize),
+    // 6: no path leads to the event.
+    Unreached(usize),
+    // 7: the offset mark of the template is neither 0 nor 1.
+    MarkOutside(usize),
+    // 8: the row of a text is broken.
+    BrokenRow(usize),
+    // 9: no step of rounding has this many ticks.
+    StepOutside(usize),
+    // 10: no times meet every deadline.
+    NoHardTimes,
+    // 21: there are no events, or too many.
+    EventsOutside,
+    // 22: there are too many rules, or their lists differ in length.
+    RulesOutside,
+    // 23: a lent list is too short.
+    ShortList,
+    // 24: there are no copies, or the unfolding is too large.
+    CopiesOutside,
 }
 
-// The lowest entry whose source or target is not below n, or the number of entries.
-#[tactic(auto, using(verdicts::proofs::Searches::passed_none, verdicts::proofs::Searches::passed_more, verdicts::proofs::Searches::lowest_here, verdicts::proofs::Searches::lowest_end))]
-pub fn unknown_event(n: usize, sources: &[usize], targets: &[usize]) -> usize
-    ensures { LowestOr (min (length sources.now) (length targets.now)) (EndsKnown n sources.now targets.now) (EndUnknown n sources.now targets.now) result }
-{
-    let mut i = 0;
-    while i < sources.len() && i < targets.len() {
-        if sources[i] >= n {
-            return i;
+impl Refusal {
+    // Its number.
+    pub fn number(self) -> usize
+        ensures { result ≡ number_of self }
+    {
+        match self {
+            Refusal::BytesOutside => 1,
+            Refusal::UnknownEvent(_) => 2,
+            Refusal::DelayOutside(_) => 3,
+            Refusal::UnknownSource | Refusal::UnknownTarget => 4,
+            Refusal::Cycle(_) => 5,
+            Refusal::Unreached(_) => 6,
+            Refusal::MarkOutside(_) => 7,
+            Refusal::BrokenRow(_) => 8,
+            Refusal::StepOutside(_) => 9,
+            Refusal::NoHardTimes => 10,
+            Refusal::EventsOutside => 21,
+            Refusal::RulesOutside => 22,
+            Refusal::ShortList => 23,
+            Refusal::CopiesOutside => 24,
         }
-        if targets[i] >= n {
-            return i;
-        }
-        i += 1;
     }
-    i
+
+    // Its place: 0 where a refusal has none.
+    pub fn place(self) -> usize
+        ensures { result ≡ place_of self }
+    {
+        match self {
+            Refusal::UnknownEvent(place)
+            | Refusal::DelayOutside(place)
+            | Refusal::Cycle(place)
+            | Refusal::Unreached(place)
+            | Refusal::MarkOutside(place)
+            | Refusal::BrokenRow(place)
+            | Refusal::StepOutside(place) => place,
+            Refusal::UnknownTarget => 1,
+            _ => 0,
+        }
+    }
 }
 
-// Whether one of an entry's two delays is not from −bound to bound, or the least is above the most.
-fn delays_beyond(bound: usize, least: i64, most: i64) -> bool
-    requires { bound ≤ 1001000 }
+// The lowest entry whose source or target is not below n.
+pub fn unknown_event(n: usize, sources: &[usize], targets: &[usize]) -> Option<usize>
+    ensures { LowestIn (min (length sources.now) (length targets.now)) (EndsKnown n sources.now targets.now) (EndUnknown n sources.now targets.now) result }
+{
+    sources
+        .iter()
+        .zip(targets)
+        .position(|(source, target)| *source >= n || *target >= n)
+}
+
+// Whether one of two delays is not from −bound to bound, or the least is above the most. A least delay above the bound is above the most, or the most is above
+// the bound too.
+pub fn delays_beyond(bound: u32, least: i64, most: i64) -> bool
     ensures { DelaysChecked bound least most result }
 {
-    let high = bound as i64;
-    let low = -high;
-    if least < low {
-        return true;
-    }
-    if least > high {
-        return true;
-    }
-    if most < low {
-        return true;
-    }
-    if most > high {
-        return true;
-    }
-    most < least
+    let bound = i64::from(bound);
+    least < -bound || most > bound || most < least
 }
 
-// The lowest entry whose delays are beyond the bound, or the number of entries.
-fn beyond_delay(bound: usize, leasts: &[i64], mosts: &[i64]) -> usize
-    requires { bound ≤ 1001000 }
-    ensures { LowestOr (min (length leasts.now) (length mosts.now)) (DelaysBounded bound leasts.now mosts.now) (DelaysBeyond bound leasts.now mosts.now) result }
+// The lowest entry whose delays are beyond the bound.
+fn beyond_delay(bound: u32, leasts: &[i64], mosts: &[i64]) -> Option<usize>
+    ensures { LowestIn (min (length leasts.now) (length mosts.now)) (DelaysBounded bound leasts.now mosts.now) (DelaysBeyond bound leasts.now mosts.now) result }
 {
-    let mut i = 0;
-    while i < leasts.len() && i < mosts.len() {
+    for i in 0..leasts.len().min(mosts.len()) {
         if delays_beyond(bound, leasts[i], mosts[i]) {
-            return i;
+            return Some(i);
         }
-        i += 1;
     }
-    i
+    None
 }
 
-// The lowest entry whose delays are outside, or the number of entries.
-pub fn outside_delay(leasts: &[i64], mosts: &[i64]) -> usize
-    ensures { LowestOr (min (length leasts.now) (length mosts.now)) (DelaysInside leasts.now mosts.now) (DelaysOutside leasts.now mosts.now) result }
+// The lowest entry whose delays are outside.
+pub fn outside_delay(leasts: &[i64], mosts: &[i64]) -> Option<usize>
+    ensures { LowestIn (min (length leasts.now) (length mosts.now)) (DelaysInside leasts.now mosts.now) (DelaysOutside leasts.now mosts.now) result }
 {
     beyond_delay(MAX_DELAY, leasts, mosts)
 }
@@ -104,100 +150,51 @@ pub fn interval_outside(least: i64, most: i64) -> bool
     delays_beyond(MAX_DELAY, least, most)
 }
 
-// Refusal 21 where the events are none or more than `max_events`; 22 where the rules are more than `max_rules`, or the four lists differ in length; else 0.
+// Refusal 21 where the events are none or more than `max_events`; 22 where the rules are more than `max_rules`, or the four lists differ in length.
 pub fn check_counts(
+    lists: &GraphLists<'_>,
     max_events: usize,
     max_rules: usize,
-    n: usize,
-    sources: &[usize],
-    targets: &[usize],
-    leasts: &[i64],
-    mosts: &[i64],
-) -> usize
-    ensures { FirstOf (count_checks max_events max_rules (graph_of n sources.now targets.now leasts.now mosts.now)) result 0 }
+) -> Result<(), Refusal>
+    ensures { Refuses (count_checks max_events max_rules (graph_in lists.now)) result }
 {
-    if n == 0 {
-        return EVENTS_OUTSIDE;
+    if lists.events == 0 || lists.events > max_events {
+        return Err(Refusal::EventsOutside);
     }
-    if n > max_events {
-        return EVENTS_OUTSIDE;
+    let rules = lists.sources.len();
+    if rules > max_rules
+        || lists.targets.len() != rules
+        || lists.leasts.len() != rules
+        || lists.mosts.len() != rules
+    {
+        return Err(Refusal::RulesOutside);
     }
-    let rules = sources.len();
-    if rules > max_rules {
-        return RULES_OUTSIDE;
-    }
-    if targets.len() != rules {
-        return RULES_OUTSIDE;
-    }
-    if leasts.len() != rules {
-        return RULES_OUTSIDE;
-    }
-    if mosts.len() != rules {
-        return RULES_OUTSIDE;
-    }
-    0
+    Ok(())
 }
 
-// The limit of the delays: `limit`, but no more than rounded delays can come to.
-fn delay_limit(limit: usize) -> usize
+// The bound of the delays where a caller names a limit: no more than rounded delays can come to.
+pub fn delay_limit(limit: usize) -> u32
     ensures { result ≡ delay_limit limit }
 {
-    if limit < MAX_ROUNDED {
-        limit
-    } else {
-        MAX_ROUNDED
-    }
+    limit.min(MAX_ROUNDED as usize) as u32
 }
 
-// The first of the refusals 21, 22 and 2 to 4 that applies to a question about s and t, or number 0. Delays may be from −limit to limit; no list is lent.
-pub fn check_input(
-    n: usize,
-    sources: &[usize],
-    targets: &[usize],
-    leasts: &[i64],
-    mosts: &[i64],
-    limit: usize,
-    s: usize,
-    t: usize,
-) -> Refusal
-    ensures { FirstOf (question_checks_to (delay_limit limit) (graph_of n sources.now targets.now leasts.now mosts.now) s t ⊥) result.number result.place }
+// The first of the refusals 21, 22 and 2 to 4 that applies to a question about s and t. Delays may be from −limit to limit; no list is lent.
+pub fn check_input(lists: &GraphLists<'_>, limit: usize, s: usize, t: usize) -> Result<(), Refusal>
+    ensures { Refuses (question_checks_to (delay_limit limit) (graph_in lists.now) s t ⊥) result }
 {
-    let counts = check_counts(MAX_EVENTS, MAX_RULES, n, sources, targets, leasts, mosts);
-    if counts != 0 {
-        return Refusal {
-            number: counts,
-            place: 0,
-        };
+    check_counts(lists, MAX_EVENTS, MAX_RULES)?;
+    if let Some(rule) = unknown_event(lists.events, lists.sources, lists.targets) {
+        return Err(Refusal::UnknownEvent(rule));
     }
-    let unknown = unknown_event(n, sources, targets);
-    if unknown < sources.len() {
-        return Refusal {
-            number: 2,
-            place: unknown,
-        };
+    if let Some(rule) = beyond_delay(delay_limit(limit), lists.leasts, lists.mosts) {
+        return Err(Refusal::DelayOutside(rule));
     }
-    let bound = delay_limit(limit);
-    let outside = beyond_delay(bound, leasts, mosts);
-    if outside < leasts.len() {
-        return Refusal {
-            number: 3,
-            place: outside,
-        };
+    if s >= lists.events {
+        return Err(Refusal::UnknownSource);
     }
-    if s >= n {
-        return Refusal {
-            number: 4,
-            place: 0,
-        };
+    if t >= lists.events {
+        return Err(Refusal::UnknownTarget);
     }
-    if t >= n {
-        return Refusal {
-            number: 4,
-            place: 1,
-        };
-    }
-    Refusal {
-        number: 0,
-        place: 0,
-    }
+    Ok(())
 }

@@ -6,16 +6,16 @@
 --     quotient_beside            x / q × q, with the division that rounds toward zero, is a multiple less than q away from x
 --     beside_within              such a multiple lies little further out than x
 --     beside_down, step_down     from it, where x goes down to: itself, or where it lies above x one step less
---     beside_up, step_up         and where x goes up to: itself, or where it lies below x one step more
+--     down_negated               where −x goes down to y, x goes up to −y
 -- The idea. Two multiples of q that are less than q apart are equal. Where x goes down to y and to z, both lie above x − q and not above x. The division that
 -- rounds toward zero gives a multiple less than q away from x, on the side of zero; where that is the wrong side, one more step of q mends it. Assumes nothing.
 use mathlib.Core.Path.{◌≡◌, refl, ap, sym, ◌∙◌}
-use Prim.Native.Nat.{ℕ, ◌+◌, ◌-◌, ◌≤◌}
-use lib.IntN.{ℤ, pos, ◌+ℤ◌, ◌-ℤ◌, ◌*ℤ◌, suc_ℤ, pred_ℤ, suc_ℤ-*ℤ, pred_ℤ-*ℤ}
+use Prim.Native.Nat.{ℕ, zero, suc, ◌+◌, ◌-◌, ◌≤◌}
+use lib.IntN.{ℤ, pos, ◌+ℤ◌, ◌-ℤ◌, ◌*ℤ◌, negsuc, neg_ℤ, pred_ℤ, pred_ℤ-*ℤ}
 use lib.Signed.{◌≤ℤ◌, ◌<ℤ◌, quot_z}
 use Rattle.integers.specs.Within.{Within}
 use Rattle.integers.proofs.Integer.{linear, sum, difference, negation}
-use Rattle.integers.proofs.Division.{multiple_not_above, quotient_near}
+use Rattle.integers.proofs.Division.{product, multiple_not_above, quotient_near}
 use Rattle.executions.specs.Separation.{Near}
 use Rattle.rounding.specs.Rounding.{Multiple, Down, Up}
 use Rattle.rounding.specs.Parts.Beside.{Beside}
@@ -116,17 +116,16 @@ module _ {q : ℕ} {x y : ℤ} (a : Beside q x y) where
         next_above = omega (linear, sum (y -ℤ pos q) (pos q), difference y (pos q));
       }
 
-  pub beside_up : x ≤ℤ y → Up q x y
-  beside_up l = record { multiple = a.multiple; not_below = l; next_below = a.next_below }
+negated_product : (t : ℤ) (q : ℕ) → neg_ℤ t *ℤ pos q ≡ pos 0 -ℤ (t *ℤ pos q)
+negated_product (pos zero) q = omega (linear, product (pos zero) q, difference (pos 0) (pos zero *ℤ pos q))
+negated_product (pos (suc n)) q = omega (linear, product (negsuc n) q, product (pos (suc n)) q, difference (pos 0) (pos (suc n) *ℤ pos q))
+negated_product (negsuc n) q = omega (linear, product (negsuc n) q, product (pos (suc n)) q, difference (pos 0) (negsuc n *ℤ pos q))
 
-  pub step_up : y <ℤ x → Up q x (y +ℤ pos q)
-  step_up l =
-      record {
-        multiple =
-            record {
-              times = suc_ℤ a.multiple.times;
-              product = ap (λ (z : ℤ). z +ℤ pos q) a.multiple.product ∙ sym (suc_ℤ-*ℤ a.multiple.times (pos q));
-            };
-        not_below = omega (linear, a.next_above, sum y (pos q));
-        next_below = omega (linear, sum y (pos q), sum x (pos q));
-      }
+-- where −x goes down to y, x goes up to −y
+pub down_negated : {q : ℕ} {x y : ℤ} → Down q (pos 0 -ℤ x) y → Up q x (pos 0 -ℤ y)
+down_negated {q} {x} {y} a =
+    record {
+      multiple = record { times = neg_ℤ a.multiple.times; product = rw a.multiple.product (sym (negated_product a.multiple.times q)) };
+      not_below = omega (linear, a.not_above, difference (pos 0) x, difference (pos 0) y);
+      next_below = omega (linear, a.next_above, difference (pos 0) x, difference (pos 0) y, sum x (pos q), sum y (pos q));
+    }

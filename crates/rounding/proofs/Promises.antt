@@ -1,12 +1,13 @@
 -- The promises of the functions that round: what they are put together from, and that two results allowed for one input are equal, lists included.
 --     step_places, step_kept             refusal 9 has one place; where q is from 1 to 1,000, it does not apply
 --     lists_kept                         where the lists are as long and have room, refusals 22 and 23 do not apply
---     lowest_entry, all_inside           what the search for a delay outside tells, by whether it stopped before the end
+--     lowest_entry, all_inside           what the search for a delay outside tells, by whether it found one
 --     rounding_22, rounding_23, rounding_3, rounding_9    the refusals, each from the facts that shut out the earlier ones
 --     delays_refused, delays_rounded     a refusal, which leaves both lists as they were; and what is written where there is none
 --     went_down_unique, went_up_unique   a number is rounded to one number
 --     round_delays_unique                two results of `round_delays` are equal
 -- Assumes nothing.
+use Rattle.std.proofs.Common.{Result, Ok, Err}
 use mathlib.Core.Path.{◌≡◌, refl, sym, ◌∙◌}
 use mathlib.Core.Logic.{inl, inr, ⊎_elim}
 use mathlib.Core.List.{List, [], ◌∷◌}
@@ -17,12 +18,13 @@ use lib.IntN.{ℤ, pos}
 use lib.ListN.{length, get_or}
 use Rattle.sequences.specs.Filled.{Filled}
 use Rattle.sequences.proofs.Same.{same_places}
-use Rattle.verdicts.specs.Verdict.{check, given, passed, AtZero, Lowest, LowestOr, FirstOf}
+use Rattle.verdicts.specs.Verdict.{check, given, passed, AtZero, Lowest, FoundAt, FirstOf}
 use Rattle.verdicts.proofs.Verdicts.{OnePlace, NoneApplies, Misses, at_zero, misses_at_zero, lowest_unique, at_zero_unique, one_verdict, none_accepted}
-use Rattle.verdicts.proofs.Searches.{lowest_bad, all_good, as_long}
+use Rattle.verdicts.proofs.Searches.{found_lowest, found_as_long}
 use Rattle.refusals.specs.declared.Refusal.{Refusal}
+use Rattle.refusals.specs.Numbers.{number_of, place_of, number_in, place_in}
 use Rattle.refusals.specs.Faults.{DelaysInside, DelaysOutside}
-use Rattle.refusals.proofs.Unique.{inside_not_outside, same_refusal}
+use Rattle.refusals.proofs.Unique.{inside_not_outside, some_number, same_result}
 use Rattle.rounding.specs.Rounding.{Down, Up}
 use Rattle.rounding.specs.Promise.{StepOutside, WentDown, went_down, not_down, WentUp, went_up, not_up, ListsDiffer, ShortForDelays, EntryOutside, rounding_checks, DelaysRounded}
 use Rattle.rounding.proofs.Multiples.{down_unique, up_unique}
@@ -50,17 +52,17 @@ module _ (ds Ds low high : List ℤ) (room : Room (length ds) (length Ds) (lengt
   pub lists_kept : NoneApplies (check 22 (AtZero (ListsDiffer ds Ds)) ∷ check 23 (AtZero (ShortForDelays ds low high)) ∷ [])
   lists_kept = (misses_at_zero (λ differ. differ room.as_many), (misses_at_zero long_enough, tt))
 
-module _ (ds Ds : List ℤ) {r : ℕ} (as_many : length Ds ≡ length ds) (found : LowestOr (min (length ds) (length Ds)) (DelaysInside ds Ds) (DelaysOutside ds Ds) r) where
-  pub lowest_entry : r < length ds → Lowest (EntryOutside ds Ds) r
-  lowest_entry =
-      lowest_bad
+module _ (ds Ds : List ℤ) (as_many : length Ds ≡ length ds) where
+  pub lowest_entry : {r : ℕ} → FoundAt (min (length ds) (length Ds)) (DelaysInside ds Ds) (DelaysOutside ds Ds) r → Lowest (EntryOutside ds Ds) r
+  lowest_entry h =
+      found_lowest
       (EntryOutside ds Ds)
       (λ i _ inside o. inside_not_outside inside o.outside)
       (λ i l outside. record { is_entry = l; outside = outside })
-      (as_long as_many found)
+      (found_as_long _ _ as_many h)
 
-  pub all_inside : length ds ≤ r → (i : ℕ) → i < length ds → DelaysInside ds Ds i
-  all_inside = all_good (as_long as_many found)
+  pub all_inside : ((i : ℕ) → i < min (length ds) (length Ds) → DelaysInside ds Ds i) → (i : ℕ) → i < length ds → DelaysInside ds Ds i
+  all_inside h i l = h i (omega arith)
 
 pub inside_kept : {ds Ds : List ℤ} → ((i : ℕ) → i < length ds → DelaysInside ds Ds i) → Misses (Lowest (EntryOutside ds Ds))
 inside_kept inside p o = inside_not_outside (inside p o.holds.is_entry) o.holds.outside
@@ -91,9 +93,9 @@ module _ {q : ℕ} {ds Ds : List ℤ} (low high : List ℤ) where
 -- ---- the results
 
 module _ {q : ℕ} {ds Ds low high : List ℤ} where
-  pub delays_refused : {k p : ℕ} → 0 < k → FirstOf (rounding_checks q ds Ds low high) k p → DelaysRounded q ds Ds low high low high (record { number = k; place = p })
-  delays_refused {k} {p} positive v =
-      let some : k ≡ 0 → ⊥ = λ e. let none : ⊥ = omega arith in none in
+  pub delays_refused : (r : Refusal) → FirstOf (rounding_checks q ds Ds low high) (number_of r) (place_of r) → DelaysRounded q ds Ds low high low high (Err r)
+  delays_refused r v =
+      let some : number_of r ≡ 0 → ⊥ = some_number r in
       record {
         verdict = v;
         down = λ e. absurd (some e);
@@ -115,7 +117,7 @@ module _ {q : ℕ} {ds Ds low high : List ℤ} where
       length low' ≡ length low →
       Filled (pos 0) (length ds) (λ i. Up q (get_or Ds i (pos 0))) high high' →
       length high' ≡ length high →
-      DelaysRounded q ds Ds low high low' high' (record { number = 0; place = 0 })
+      DelaysRounded q ds Ds low high low' high' (Ok tt)
   delays_rounded room inside positive small fl el fh eh =
       record {
         verdict = rounding_0 low high room inside positive small;
@@ -144,20 +146,23 @@ module _ {q : ℕ} {x y z : ℤ} where
   went_up_unique (not_up n e) (went_up r a) = absurd (n r)
   went_up_unique (not_up n e) (not_up m f) = e ∙ sym f
 
-module _ {q : ℕ} {ds Ds low₀ high₀ low high low' high' : List ℤ} {r r' : Refusal} (a : DelaysRounded q ds Ds low₀ high₀ low high r) (b : DelaysRounded q ds Ds low₀ high₀ low' high' r') where
+module _ {q : ℕ} {ds Ds low₀ high₀ low high low' high' : List ℤ} {r r' : Result Unit Refusal} (a : DelaysRounded q ds Ds low₀ high₀ low high r) (b : DelaysRounded q ds Ds low₀ high₀ low' high' r') where
   pub round_delays_unique : (r ≡ r') × (low ≡ low') × (high ≡ high')
-  round_delays_unique = go (ℕ_discrete r.number 0)
+  round_delays_unique = go (ℕ_discrete (number_in r) 0)
     where
-      same : (r.number ≡ r'.number) × (r.place ≡ r'.place)
-      same = one_verdict (rounding_checks q ds Ds low₀ high₀) (at_zero_unique, (at_zero_unique, (lowest_unique, (step_places, tt)))) _ _ _ _ a.verdict b.verdict
+      numbers : (number_in r ≡ number_in r') × (place_in r ≡ place_in r')
+      numbers = one_verdict (rounding_checks q ds Ds low₀ high₀) (at_zero_unique, (at_zero_unique, (lowest_unique, (step_places, tt)))) _ _ _ _ a.verdict b.verdict
 
-      go : Dec (r.number ≡ 0) → (r ≡ r') × (low ≡ low') × (high ≡ high')
+      same : r ≡ r'
+      same = same_result r r' numbers.0 numbers.1 (λ _ _ _ _. refl)
+
+      go : Dec (number_in r ≡ 0) → (r ≡ r') × (low ≡ low') × (high ≡ high')
       go (yes e) =
-          let f = sym same.0 ∙ e in (
-            same_refusal same,
+          let f = sym numbers.0 ∙ e in (
+            same,
             same_places (length ds) low low' (pos 0) (a.low_length ∙ sym b.low_length) (λ i l. down_unique (a.down e i l) (b.down f i l)) (a.low_beyond e ∙ sym (b.low_beyond f)),
             same_places (length ds) high high' (pos 0) (a.high_length ∙ sym b.high_length) (λ i l. up_unique (a.up e i l) (b.up f i l)) (a.high_beyond e ∙ sym (b.high_beyond f)),
           )
       go (no n) =
-          let m : r'.number ≡ 0 → ⊥ = λ e. n (same.0 ∙ e) in
-          (same_refusal same, a.low_kept n ∙ sym (b.low_kept m), a.high_kept n ∙ sym (b.high_kept m))
+          let m : number_in r' ≡ 0 → ⊥ = λ e. n (numbers.0 ∙ e) in
+          (same, a.low_kept n ∙ sym (b.low_kept m), a.high_kept n ∙ sym (b.high_kept m))

@@ -8,10 +8,11 @@
 --     rounding_checks q ds Ds low high == refusals 22, 23, 3 and 9, in this order
 --     DelaysRounded q ds Ds low₀ high₀ low high r == the refusal, and what the two lent lists, which held low₀ and high₀, hold after
 -- Assumes nothing.
-use Rattle.std.specs.Prelude.{◌≡◌, ◌⊎◌, List, [], ◌∷◌, ℕ, ◌<◌, ◌≤◌, ℤ, pos, length, get_or, drop}
+use Rattle.std.specs.Prelude.{◌≡◌, ◌⊎◌, Result, List, [], ◌∷◌, ℕ, ◌<◌, ◌≤◌, ℤ, pos, length, get_or, drop}
 use Rattle.integers.specs.Within.{Within}
-use Rattle.verdicts.specs.Verdict.{Check, check, AtZero, Lowest, FirstOf}
+use Rattle.verdicts.specs.Verdict.{Check, check, AtZero, Lowest}
 use Rattle.refusals.specs.declared.Refusal.{Refusal}
+use Rattle.refusals.specs.Numbers.{number_in, Refuses}
 use Rattle.refusals.specs.Faults.{DelaysOutside}
 use Rattle.rounding.specs.Rounding.{Down, Up}
 
@@ -54,13 +55,13 @@ rounding_checks q ds Ds low high =
     check 22 (AtZero (ListsDiffer ds Ds)) ∷ check 23 (AtZero (ShortForDelays ds low high)) ∷ check 3 (Lowest (EntryOutside ds Ds)) ∷ check 9 (StepOutside q) ∷ []
 
 -- "places beyond keep what they held"; refused, "every lent list keeps its contents"
-pub record DelaysRounded (q : ℕ) (ds Ds low₀ high₀ low high : List ℤ) (r : Refusal) : Type 0 where
-  pub verdict : FirstOf (rounding_checks q ds Ds low₀ high₀) r.number r.place
-  pub down : r.number ≡ 0 → (i : ℕ) → i < length ds → Down q (get_or ds i (pos 0)) (get_or low i (pos 0))
-  pub up : r.number ≡ 0 → (i : ℕ) → i < length ds → Up q (get_or Ds i (pos 0)) (get_or high i (pos 0))
-  pub low_beyond : r.number ≡ 0 → drop (length ds) low ≡ drop (length ds) low₀
-  pub high_beyond : r.number ≡ 0 → drop (length ds) high ≡ drop (length ds) high₀
-  pub low_kept : (r.number ≡ 0 → ⊥) → low ≡ low₀
-  pub high_kept : (r.number ≡ 0 → ⊥) → high ≡ high₀
+pub record DelaysRounded (q : ℕ) (ds Ds low₀ high₀ low high : List ℤ) (r : Result Unit Refusal) : Type 0 where
+  pub verdict : Refuses (rounding_checks q ds Ds low₀ high₀) r
+  pub down : number_in r ≡ 0 → (i : ℕ) → i < length ds → Down q (get_or ds i (pos 0)) (get_or low i (pos 0))
+  pub up : number_in r ≡ 0 → (i : ℕ) → i < length ds → Up q (get_or Ds i (pos 0)) (get_or high i (pos 0))
+  pub low_beyond : number_in r ≡ 0 → drop (length ds) low ≡ drop (length ds) low₀
+  pub high_beyond : number_in r ≡ 0 → drop (length ds) high ≡ drop (length ds) high₀
+  pub low_kept : (number_in r ≡ 0 → ⊥) → low ≡ low₀
+  pub high_kept : (number_in r ≡ 0 → ⊥) → high ≡ high₀
   pub low_length : length low ≡ length low₀
   pub high_length : length high ≡ length high₀

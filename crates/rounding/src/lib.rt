@@ -10,8 +10,8 @@ ghost use Rattle.std.specs.Prelude.{◌≡◌, true, false, ◌⊎◌, ℕ, ◌<
 ghost use Rattle.integers.specs.Within.{Within};
 ghost use Rattle.sequences.specs.Filled.{Filled};
 ghost use Rattle.rounding.specs.Rounding.{Down, Up};
-ghost use Rattle.rounding.specs.Promise.{StepOutside, Roundable, WentDown, WentUp, DelaysRounded};
 ghost use Rattle.rounding.specs.Parts.Beside.{Beside};
+ghost use Rattle.rounding.specs.Promise.{StepOutside, Roundable, WentDown, WentUp, DelaysRounded};
 
 use refusals::Refusal;
 
@@ -24,13 +24,7 @@ fn step_outside(q: usize) -> bool
     ensures yes { result ≡ true → StepOutside q q }
     ensures no { result ≡ false → (1 ≤ q) × (q ≤ 1000) }
 {
-    if q == 0 {
-        return true;
-    }
-    if q > MAX_STEP {
-        return true;
-    }
-    false
+    q == 0 || q > MAX_STEP
 }
 
 // The multiple of `step` next to `x` on the side of zero: the division rounds toward zero.
@@ -38,6 +32,7 @@ fn toward_zero(x: i64, step: usize) -> i64
     requires { (1 ≤ step) × (step ≤ 1000) × Within 1000000 x }
     ensures { Beside step x result }
 {
+    // Kept: no `div_euclid`. The project's own form for this place is floor and ceiling from a division that rounds toward zero.
     let q = step as i64;
     x / q * q
 }
@@ -51,13 +46,12 @@ fn down(x: i64, step: usize) -> i64
     if x < y { y - step as i64 } else { y }
 }
 
-// The least multiple of `step` that is not below `x`. Above zero the one on the side of zero may be a step too low.
+// The least multiple of `step` that is not below `x`.
 fn up(x: i64, step: usize) -> i64
     requires { (1 ≤ step) × (step ≤ 1000) × Within 1000000 x }
     ensures { Up step x result × Within 1000999 result }
 {
-    let y = toward_zero(x, step);
-    if y < x { y + step as i64 } else { y }
+    -down(-x, step)
 }
 
 // Whether `step` is a step, and `x` lies where a delay may.
@@ -65,33 +59,21 @@ fn roundable(x: i64, step: usize) -> bool
     ensures yes { result ≡ true → Roundable step x }
     ensures no { result ≡ false → Roundable step x → ⊥ }
 {
-    if step_outside(step) {
-        return false;
-    }
-    if x < -MAX_DELAY {
-        return false;
-    }
-    x <= MAX_DELAY
+    !step_outside(step) && (-MAX_DELAY..=MAX_DELAY).contains(&x)
 }
 
 // Where `x` goes down to in steps of `step`; a number or a step outside leaves `x` as it is.
 pub fn round_down(x: i64, step: usize) -> i64
     ensures { WentDown step x result }
 {
-    if roundable(x, step) {
-        return down(x, step);
-    }
-    x
+    if roundable(x, step) { down(x, step) } else { x }
 }
 
 // Where `x` goes up to in steps of `step`; a number or a step outside leaves `x` as it is.
 pub fn round_up(x: i64, step: usize) -> i64
     ensures { WentUp step x result }
 {
-    if roundable(x, step) {
-        return up(x, step);
-    }
-    x
+    if roundable(x, step) { up(x, step) } else { x }
 }
 
 // Whether a lent list of `low` or of `high` places is too short for so many delays.
@@ -99,13 +81,7 @@ fn too_short(delays: usize, low: usize, high: usize) -> bool
     ensures yes { result ≡ true → (low < delays) ⊎ (high < delays) }
     ensures no { result ≡ false → (delays ≤ low) × (delays ≤ high) }
 {
-    if low < delays {
-        return true;
-    }
-    if high < delays {
-        return true;
-    }
-    false
+    low < delays || high < delays
 }
 
 // Both bounds of each rule's interval, rounded outward.
@@ -115,11 +91,9 @@ fn round_lists(step: usize, leasts: &[i64], mosts: &[i64], low: &mut [i64], high
     ensures lows { Filled (pos 0) (length leasts.now) (λ i. Down step (get_or leasts.now i (pos 0))) low.old low.new }
     ensures highs { Filled (pos 0) (length leasts.now) (λ i. Up step (get_or mosts.now i (pos 0))) high.old high.new }
 {
-    let mut i = 0;
-    while i < leasts.len() {
+    for i in 0..leasts.len() {
         low[i] = down(leasts[i], step);
         high[i] = up(mosts[i], step);
-        i += 1;
     }
 }
 
@@ -130,37 +104,21 @@ pub fn round_delays(
     mosts: &[i64],
     low: &mut [i64],
     high: &mut [i64],
-) -> Refusal
+) -> Result<(), Refusal>
     ensures { DelaysRounded q leasts.now mosts.now low.old high.old low.new high.new result }
 {
     if mosts.len() != leasts.len() {
-        return Refusal {
-            number: 22,
-            place: 0,
-        };
+        return Err(Refusal::RulesOutside);
     }
     if too_short(leasts.len(), low.len(), high.len()) {
-        return Refusal {
-            number: 23,
-            place: 0,
-        };
+        return Err(Refusal::ShortList);
     }
-    let outside = refusals::outside_delay(leasts, mosts);
-    if outside < leasts.len() {
-        return Refusal {
-            number: 3,
-            place: outside,
-        };
+    if let Some(entry) = refusals::outside_delay(leasts, mosts) {
+        return Err(Refusal::DelayOutside(entry));
     }
     if step_outside(q) {
-        return Refusal {
-            number: 9,
-            place: q,
-        };
+        return Err(Refusal::StepOutside(q));
     }
     round_lists(q, leasts, mosts, low, high);
-    Refusal {
-        number: 0,
-        place: 0,
-    }
+    Ok(())
 }

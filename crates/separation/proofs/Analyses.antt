@@ -2,7 +2,8 @@
 --     answer_refused    a refusal of the analysis is one of the answer: a list of 1,024 places is too short only where there are too many events
 --     answer_found      so is what it found, with U(t) read off the list
 -- Assumes nothing.
-use mathlib.Core.Path.{◌≡◌, sym, subst₂, ◌∙◌}
+use Rattle.std.proofs.Common.{Ok, Err}
+use mathlib.Core.Path.{◌≡◌, refl}
 use mathlib.Core.List.{List, [], ◌∷◌, ◌++◌}
 use Prim.Native.Nat.{ℕ, ◌<◌}
 use native.Mathlib.Omega.{arith}
@@ -13,10 +14,12 @@ use Rattle.verdicts.proofs.Verdicts.{misses_at_zero, holds_not, rest_of, then_mo
 use Rattle.graphs.specs.Graph.{Graph}
 use Rattle.graphs.specs.Refusal.{many_events, MissingEnd, count_checks, rule_checks, path_checks}
 use Rattle.refusals.specs.Question.{delay_limit}
-use Rattle.analysis.specs.declared.Analysis.{Analysis}
+use Rattle.refusals.specs.declared.Refusal.{Refusal}
+use Rattle.refusals.proofs.Unique.{some_number}
+use Rattle.analysis.specs.declared.Depths.{Depths}
 use Rattle.analysis.specs.Promise.{AnalysisVerdict, Analysed}
-use Rattle.separation.specs.declared.Answer.{Answer}
-use Rattle.separation.specs.Promise.{Nothing, at}
+use Rattle.separation.specs.Numbers.{answer_numbers}
+use Rattle.separation.specs.Promise.{at}
 use Rattle.separation.specs.Parts.Answers.{AnswerAnalysed}
 
 -- where refusal 21 does not apply, there are no more than 1,024 events
@@ -30,19 +33,19 @@ room_counted {g} us long limit {s} {t} {j} {p} =
     after : List Check
     after = rule_checks (delay_limit limit) g ++ (check 4 (MissingEnd g s t) ∷ [])
 
-module _ {limit : ℕ} {g : Graph} {s t : ℕ} {us₀ us : List ℤ} {x : Analysis} (long : length us₀ ≡ 1024) (analysed : Analysed limit g s t us₀ us x) where
-  pub answer_refused : {a : Answer} → (x.refusal ≡ 0 → ⊥) → (a.refusal ≡ x.refusal) × (a.place ≡ x.place) × Nothing a → AnswerAnalysed limit g s t us a
-  answer_refused n r =
+module _ {limit : ℕ} {g : Graph} {s t : ℕ} {us₀ us : List ℤ} (long : length us₀ ≡ 1024) where
+  pub answer_refused : {r : Refusal} → Analysed limit g s t us₀ us (Err r) → AnswerAnalysed limit g s t us (answer_numbers (Err r))
+  answer_refused {r} analysed =
       record {
-        verdict = subst₂ (AnalysisVerdict limit g s t ⊥) (sym r.0) (sym r.1) (room_counted us₀ long limit analysed.verdict);
-        found = λ e. absurd (n (sym r.0 ∙ e));
-        nothing = λ _. r.2;
+        verdict = room_counted us₀ long limit analysed.verdict;
+        found = λ e. absurd (some_number r e);
+        nothing = λ _. record { no_separation = refl; no_source_depth = refl; no_target_depth = refl };
       }
 
-  pub answer_found : (y : ℤ) → x.refusal ≡ 0 → y ≡ at us t →
-      AnswerAnalysed limit g s t us (record { refusal = x.refusal; place = x.place; separation = y; source_depth = x.source_depth; target_depth = x.target_depth })
-  answer_found y e read =
-      let h = analysed.found e in
+  pub answer_found : {d : Depths} (y : ℤ) → Analysed limit g s t us₀ us (Ok d) → y ≡ at us t →
+      AnswerAnalysed limit g s t us (answer_numbers (Ok (record { separation = y; source_depth = d.source; target_depth = d.target })))
+  answer_found y analysed read =
+      let h = analysed.outcome in
       record {
         verdict = room_counted us₀ long limit analysed.verdict;
         found = λ _.
@@ -56,5 +59,5 @@ module _ {limit : ℕ} {g : Graph} {s t : ℕ} {us₀ us : List ℤ} {x : Analys
               depth_of_source = h.depth_of_source;
               depth_of_target = h.depth_of_target;
             };
-        nothing = λ n. absurd (n e);
+        nothing = λ n. absurd (n refl);
       }

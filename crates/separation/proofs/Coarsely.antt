@@ -8,7 +8,8 @@
 --     coarse_step_refused    so is a step that is refused
 --     coarse_analysed        an input that is kept is answered by the analysis of the rounded graph
 -- Assumes nothing.
-use mathlib.Core.Path.{◌≡◌, refl, sym, subst, subst₂, ◌∙◌}
+use Rattle.std.proofs.Common.{Result, Ok, Err}
+use mathlib.Core.Path.{◌≡◌, refl, sym, subst, ◌∙◌}
 use mathlib.Core.Logic.{inl, inr}
 use mathlib.Core.List.{List, [], ◌∷◌}
 use Prim.Native.Nat.{ℕ, ◌<◌, ◌≤◌}
@@ -34,8 +35,11 @@ use Rattle.rounding.specs.Promise.{StepOutside, ListsDiffer, ShortForDelays, Ent
 use Rattle.rounding.proofs.Promises.{lists_kept, inside_kept, step_kept}
 use Rattle.rounding.proofs.Costs.{rounded_sized}
 use Rattle.analysis.proofs.Arranging.{sized_up}
+use Rattle.refusals.specs.Numbers.{number_of, place_of, number_in, place_in}
+use Rattle.refusals.proofs.Unique.{some_number}
 use Rattle.separation.specs.declared.Answer.{Answer}
-use Rattle.separation.specs.Promise.{PathVerdict, Nothing}
+use Rattle.separation.specs.Numbers.{answer_numbers}
+use Rattle.separation.specs.Promise.{PathVerdict}
 use Rattle.separation.specs.Coarse.{CoarseVerdict, CoarseFound, CoarseAnswered}
 use Rattle.separation.specs.Parts.Answers.{AnswerFound, AnswerAnalysed}
 
@@ -58,13 +62,13 @@ module _ {n : ℕ} {ss ts : List ℕ} {ds Ds : List ℤ} (low₀ high₀ : List 
   rounding_passed {q} {j} {p} v =
       rest_of (check 22 (AtZero (ListsDiffer ds Ds)) ∷ check 23 (AtZero (ShortForDelays ds low₀ high₀)) ∷ check 3 (Lowest (EntryOutside ds Ds)) ∷ []) (FirstOf (check 9 (StepOutside q) ∷ [])) j p lists_none v
 
-  pub step_verdict : {q : ℕ} {low high : List ℤ} {r : Refusal} → DelaysRounded q ds Ds low₀ high₀ low high r → FirstOf (check 9 (StepOutside q) ∷ []) r.number r.place
+  pub step_verdict : {q : ℕ} {low high : List ℤ} {x : Result Unit Refusal} → DelaysRounded q ds Ds low₀ high₀ low high x → FirstOf (check 9 (StepOutside q) ∷ []) (number_in x) (place_in x)
   step_verdict rounded = rounding_passed rounded.verdict
 
-  module _ {q : ℕ} {low high : List ℤ} {r : Refusal} (rounded : DelaysRounded q ds Ds low₀ high₀ low high r) (none : r.number ≡ 0) where
+  module _ {q : ℕ} {low high : List ℤ} (rounded : DelaysRounded q ds Ds low₀ high₀ low high (Ok tt)) where
     pub step_in : (1 ≤ q) × (q ≤ 1000)
     step_in =
-        let (misses, _) = accepted_none (check 9 (StepOutside q) ∷ []) Accepted (omega arith, tt) r.number r.place none (rounding_passed rounded.verdict) in
+        let (misses, _) = accepted_none (check 9 (StepOutside q) ∷ []) Accepted (omega arith, tt) 0 0 refl (rounding_passed rounded.verdict) in
         let some : q ≡ 0 → ⊥ = λ e. misses.0 q (record { its_place = refl; outside = inl e }) in
         let few : 1000 < q → ⊥ = λ l. misses.0 q (record { its_place = refl; outside = inr l }) in
         (omega arith, omega arith)
@@ -81,8 +85,8 @@ module _ {n : ℕ} {ss ts : List ℕ} {ds Ds : List ℤ} (low₀ high₀ : List 
           same = record { events_same = refl; sources_same = refl; targets_same = refl };
           as_many_leasts = length-take-le (length ss) low low_room ∙ sym sized.counts.leasts_match;
           as_many_mosts = length-take-le (length ss) high high_room ∙ sym sized.counts.mosts_match;
-          down = λ i l. rw (get_or-take (length ss) low i (pos 0) l) (rounded.down none i (omega (arith, l, sized.counts.leasts_match)));
-          up = λ i l. rw (get_or-take (length ss) high i (pos 0) l) (rounded.up none i (omega (arith, l, sized.counts.leasts_match)));
+          down = λ i l. rw (get_or-take (length ss) low i (pos 0) l) (rounded.down refl i (omega (arith, l, sized.counts.leasts_match)));
+          up = λ i l. rw (get_or-take (length ss) high i (pos 0) l) (rounded.up refl i (omega (arith, l, sized.counts.leasts_match)));
         }
 
 -- ---- refusals 5 and 6
@@ -128,24 +132,19 @@ rounded_kept kept small rounded =
       target_known = omega (arith, kept.target_known, same.events_same);
     }
 
+module _ {g : Graph} {q s t : ℕ} (r : Refusal) where
+  coarse_given : CoarseVerdict g q s t (number_of r) (place_of r) → CoarseAnswered g q s t (answer_numbers (Err r))
+  coarse_given v =
+      record { verdict = v; found = λ e. absurd (some_number r e); nothing = λ _. record { no_separation = refl; no_source_depth = refl; no_target_depth = refl } }
+
+  pub coarse_refused : FirstOf (question_checks g s t ⊥) (number_of r) (place_of r) → CoarseAnswered g q s t (answer_numbers (Err r))
+  coarse_refused v = coarse_given (front_given (question_checks g s t ⊥) (FirstOf (check 9 (StepOutside q) ∷ path_checks g)) (number_of r) (place_of r) (some_number r) v)
+
+  pub coarse_step_refused : QuestionKept 1000000 g s t → FirstOf (check 9 (StepOutside q) ∷ []) (number_of r) (place_of r) → CoarseAnswered g q s t (answer_numbers (Err r))
+  coarse_step_refused kept v = coarse_given (after kept (front_given (check 9 (StepOutside q) ∷ []) (PathVerdict g) (number_of r) (place_of r) (some_number r) v))
+
 module _ {g : Graph} {q s t : ℕ} {a : Answer} where
-  pub coarse_refused : (k p : ℕ) → (k ≡ 0 → ⊥) → (a.refusal ≡ k) × (a.place ≡ p) × Nothing a → FirstOf (question_checks g s t ⊥) k p → CoarseAnswered g q s t a
-  coarse_refused k p some r v =
-      record {
-        verdict = subst₂ (CoarseVerdict g q s t) (sym r.0) (sym r.1) (front_given (question_checks g s t ⊥) (FirstOf (check 9 (StepOutside q) ∷ path_checks g)) k p some v);
-        found = λ e. absurd (some (sym r.0 ∙ e));
-        nothing = λ _. r.2;
-      }
-
   module _ (kept : QuestionKept 1000000 g s t) where
-    pub coarse_step_refused : (k p : ℕ) → (k ≡ 0 → ⊥) → (a.refusal ≡ k) × (a.place ≡ p) × Nothing a → FirstOf (check 9 (StepOutside q) ∷ []) k p → CoarseAnswered g q s t a
-    coarse_step_refused k p some r v =
-        record {
-          verdict = subst₂ (CoarseVerdict g q s t) (sym r.0) (sym r.1) (after kept (front_given (check 9 (StepOutside q) ∷ []) (PathVerdict g) k p some v));
-          found = λ e. absurd (some (sym r.0 ∙ e));
-          nothing = λ _. r.2;
-        }
-
     module _ {h : Graph} {us : List ℤ} (step : (1 ≤ q) × (q ≤ 1000)) (rounded : Rounded q g h) where
       coarse_found : AnswerFound 1001000 h s t us a → CoarseFound g q s t a
       coarse_found f =

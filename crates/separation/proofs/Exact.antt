@@ -4,11 +4,11 @@
 --     lists_refused         a refusal leaves both lists as they were
 --     lists_written         what `write_times` and `write_delays` wrote is the schedule
 -- Assumes nothing.
-use mathlib.Core.Path.{◌≡◌, refl, sym, subst, subst₂, ◌∙◌}
+use Rattle.std.proofs.Common.{Err}
+use mathlib.Core.Path.{◌≡◌, refl, sym, subst}
 use mathlib.Core.List.{List}
 use Prim.Native.Nat.{ℕ}
 use lib.IntN.{ℤ, pos}
-use native.Mathlib.Omega.{arith}
 use lib.ListN.{length}
 use Rattle.sequences.specs.Filled.{Filled}
 use Rattle.verdicts.specs.Verdict.{given, passed, FirstOf}
@@ -22,27 +22,30 @@ use Rattle.refusals.proofs.Counts.{counts_given}
 use Rattle.executions.specs.Separation.{Separation}
 use Rattle.executions.specs.Schedule.{Latest}
 use Rattle.executions.proofs.Schedules.{separation_of, greatest_delay_of, schedule_of}
+use Rattle.refusals.specs.declared.Refusal.{Refusal}
+use Rattle.refusals.specs.declared.Refusal.TheVariants.{ShortList}
+use Rattle.refusals.specs.Numbers.{number_of, place_of}
+use Rattle.refusals.proofs.Unique.{some_number}
 use Rattle.separation.specs.declared.Answer.{Answer}
+use Rattle.separation.specs.Numbers.{answer_numbers}
 use Rattle.separation.specs.Promise.{Verdict, Found, Nothing, Answered, Written, at}
 use Rattle.separation.specs.Parts.Answers.{AnswerFound, AnswerAnalysed}
 use Rattle.separation.specs.Parts.Lists.{TimeAt, DelayAt}
 
+refused_nothing : (r : Refusal) → Nothing (answer_numbers (Err r))
+refused_nothing r = record { no_separation = refl; no_source_depth = refl; no_target_depth = refl }
+
+module _ {g : Graph} {s t : ℕ} (r : Refusal) where
+  answered_refused : {Short : Type 0} → Verdict g s t Short (number_of r) (place_of r) → Answered g s t Short (answer_numbers (Err r))
+  answered_refused v = record { verdict = v; found = λ e. absurd (some_number r e); nothing = λ _. refused_nothing r }
+
+  pub answered_counts : {Short : Type 0} → FirstOf (count_checks 1024 4096 g) (number_of r) (place_of r) → Answered g s t Short (answer_numbers (Err r))
+  answered_counts v = answered_refused (counts_given _ (some_number r) v)
+
+pub answered_too_short : {g : Graph} {s t : ℕ} {Short : Type 0} → CountsKept g → Short → Answered g s t Short (answer_numbers (Err ShortList))
+answered_too_short counts short = answered_refused ShortList (passed (events_miss counts) (passed (rules_miss counts) (given (at_zero short))))
+
 module _ {g : Graph} {s t : ℕ} {a : Answer} where
-  answered_refused : {Short : Type 0} (k : ℕ) → (k ≡ 0 → ⊥) → (a.refusal ≡ k) × (a.place ≡ 0) × Nothing a → Verdict g s t Short k 0 → Answered g s t Short a
-  answered_refused {Short} k some r v =
-      record {
-        verdict = subst₂ (Verdict g s t Short) (sym r.0) (sym r.1) v;
-        found = λ e. absurd (some (sym r.0 ∙ e));
-        nothing = λ _. r.2;
-      }
-
-  pub answered_counts : {Short : Type 0} (k : ℕ) → (k ≡ 0 → ⊥) → FirstOf (count_checks 1024 4096 g) k 0 → (a.refusal ≡ k) × (a.place ≡ 0) × Nothing a → Answered g s t Short a
-  answered_counts k some v r = answered_refused k some r (counts_given _ some v)
-
-  pub answered_too_short : {Short : Type 0} → CountsKept g → Short → (a.refusal ≡ 23) × (a.place ≡ 0) × Nothing a → Answered g s t Short a
-  answered_too_short counts short r =
-      answered_refused 23 (λ e. let none : ⊥ = omega arith in none) r (passed (events_miss counts) (passed (rules_miss counts) (given (at_zero short))))
-
   module _ {us : List ℤ} where
     found_of : AnswerFound 1000000 g s t us a → Found g s t a
     found_of f =
@@ -58,10 +61,10 @@ module _ {g : Graph} {s t : ℕ} {a : Answer} where
     pub answered_analysed : AnswerAnalysed 1000000 g s t us a → Answered g s t ⊥ a
     answered_analysed x = record { verdict = x.verdict; found = λ e. found_of (x.found e); nothing = x.nothing }
 
-pub lists_refused : {g : Graph} {s : ℕ} {a : Answer} {times delays : List ℤ} → (a.refusal ≡ 0 → ⊥) → Written g s a times delays times delays
-lists_refused n =
+pub lists_refused : {g : Graph} {s : ℕ} (r : Refusal) {times delays : List ℤ} → Written g s (answer_numbers (Err r)) times delays times delays
+lists_refused r =
     record {
-      schedule = λ e. absurd (n e);
+      schedule = λ e. absurd (some_number r e);
       times_beyond = λ e. refl;
       delays_beyond = λ e. refl;
       times_kept = λ m. refl;

@@ -4,9 +4,11 @@
 --     answered_exactly   a refusal is given exactly when its rule says: whatever number and place the verdict allows, the answer has them
 --     times_unique       what two runs leave in the time list
 --     delays_unique      and in the delay list
+--     told_by_numbers, result_unique    the numbers tell the result, so two results of one question are equal
 --     exact_within, least_of_exchanged, answers_near    the sizes, the least value, and demand 3's first sentence, of answers
 --     schedule_unique    all of it: two results of `schedule` are equal
 -- Assumes nothing.
+use Rattle.std.proofs.Common.{Result, Ok, Err, ap}
 use mathlib.Core.Path.{◌≡◌, sym, subst, ◌∙◌}
 use mathlib.Core.List.{List}
 use Prim.Native.Nat.{ℕ, ◌+◌, ◌*◌}
@@ -22,7 +24,11 @@ use Rattle.executions.specs.Separation.{LeastSeparation, SameRules, Near, Delays
 use Rattle.executions.proofs.Nearness.{maxima_near}
 use Rattle.executions.proofs.Sizes.{exact_size}
 use Rattle.executions.proofs.Unique.{separation_unique, least_is_exchanged, latest_unique, greatest_delays_unique}
+use Rattle.refusals.specs.declared.Refusal.{Refusal}
+use Rattle.refusals.proofs.Unique.{same_refusal, some_number}
+use Rattle.separation.specs.declared.Separated.{Separated}
 use Rattle.separation.specs.declared.Answer.{Answer}
+use Rattle.separation.specs.Numbers.{answer_numbers}
 use Rattle.separation.specs.Promise.{Verdict, Answered, Nothing, Written}
 use Rattle.separation.proofs.Verdicts.{verdict_unique}
 
@@ -100,6 +106,18 @@ schedule_unique {g} {s} {times₀ = times₀} {delays₀ = delays₀} {times' = 
     let same = answer_unique pa pb in
     let w = subst (λ (x : Answer). Written g s x times₀ delays₀ times' delays') (sym same) wb in
     (same, times_unique pa wa w, delays_unique pa wa w)
+
+-- ---- results
+
+-- the numbers of a result tell the result
+pub told_by_numbers : (x y : Result Separated Refusal) → answer_numbers x ≡ answer_numbers y → x ≡ y
+told_by_numbers (Ok x) (Ok y) e = ap Ok (λ i. record { separation = (e i).separation; source_depth = (e i).source_depth; target_depth = (e i).target_depth })
+told_by_numbers (Ok x) (Err r) e = absurd (some_number r (λ i. (sym e i).refusal))
+told_by_numbers (Err r) (Ok y) e = absurd (some_number r (λ i. (e i).refusal))
+told_by_numbers (Err r) (Err q) e = ap Err (same_refusal r q (λ i. (e i).refusal) (λ i. (e i).place))
+
+pub result_unique : {g : Graph} {s t : ℕ} {Short : Type 0} (x y : Result Separated Refusal) → Answered g s t Short (answer_numbers x) → Answered g s t Short (answer_numbers y) → x ≡ y
+result_unique x y p q = told_by_numbers x y (answer_unique p q)
 
 -- ---- what the promises say of answers
 

@@ -1,76 +1,53 @@
-// Answers: a refusal, and what the analysis finds.
+// What the analysis finds, with the separation read off.
 ghost use Rattle.std.specs.Prelude.{◌≡◌, List, ◌≤◌, ℤ, length, take};
 ghost use Rattle.graphs.specs.Graph.{graph_of};
-ghost use Rattle.separation.specs.Promise.{Nothing};
+ghost use Rattle.graphs.specs.Lists.{graph_in};
+ghost use Rattle.separation.specs.Numbers.{answer_numbers};
 ghost use Rattle.separation.specs.Parts.Answers.{AnswerAnalysed};
 
-use crate::Answer;
+use crate::Separated;
+use graphs::GraphLists;
+use refusals::Refusal;
 
-// Refusal `number` at `place`: separation 0, depths 0.
-pub(crate) fn refused(number: usize, place: usize) -> Answer
-    ensures { (result.refusal ≡ number) × (result.place ≡ place) × Nothing result }
-{
-    Answer {
-        refusal: number,
-        place,
-        separation: 0,
-        source_depth: 0,
-        target_depth: 0,
-    }
-}
+// The most that a rounded delay comes to.
+const MAX_ROUNDED: usize = 1001000;
 
 // The refusal, or the separation with both depths; then `latest` holds U of every event. Delays may be from −limit to limit.
 pub(crate) fn analysed(
-    n: usize,
-    sources: &[usize],
-    targets: &[usize],
-    leasts: &[i64],
-    mosts: &[i64],
+    lists: &GraphLists<'_>,
     limit: usize,
     s: usize,
     t: usize,
     latest: &mut [i32],
-) -> Answer
+) -> Result<Separated, Refusal>
     requires { length latest.old ≡ 1024 }
-    ensures { AnswerAnalysed limit (graph_of n sources.now targets.now leasts.now mosts.now) s t latest.new result }
+    ensures { AnswerAnalysed limit (graph_in lists.now) s t latest.new (answer_numbers result) }
 {
-    let found = analysis::analyse(n, sources, targets, leasts, mosts, limit, s, t, latest);
-    if found.refusal != 0 {
-        return refused(found.refusal, found.place);
-    }
-    Answer {
-        refusal: found.refusal,
-        place: found.place,
-        separation: latest[t] as i64,
-        source_depth: found.source_depth,
-        target_depth: found.target_depth,
-    }
+    let depths = analysis::analyse(lists, limit, s, t, latest)?;
+    Ok(Separated {
+        separation: i64::from(latest[t]),
+        source_depth: depths.source,
+        target_depth: depths.target,
+    })
 }
 
 // The same of the rules' front parts of `low` and `high`, which are rounded.
 pub(crate) fn analysed_rounded(
-    n: usize,
-    sources: &[usize],
-    targets: &[usize],
+    lists: &GraphLists<'_>,
     low: &[i64],
     high: &[i64],
     s: usize,
     t: usize,
-) -> Answer
-    requires { (length sources.now ≤ length low.now) × (length sources.now ≤ length high.now) }
-    ensures { (us : List ℤ) × AnswerAnalysed 1001000 (graph_of n sources.now targets.now (take (length sources.now) low.now) (take (length sources.now) high.now)) s t us result }
+) -> Result<Separated, Refusal>
+    requires { (length lists.now.sources.now ≤ length low.now) × (length lists.now.sources.now ≤ length high.now) }
+    ensures { (us : List ℤ) × AnswerAnalysed 1001000 (graph_of lists.now.events lists.now.sources.now lists.now.targets.now (take (length lists.now.sources.now) low.now) (take (length lists.now.sources.now) high.now)) s t us (answer_numbers result) }
 {
-    let rules = sources.len();
+    let rules = lists.sources.len();
+    let rounded = GraphLists {
+        leasts: &low[..rules],
+        mosts: &high[..rules],
+        ..*lists
+    };
     let mut latest = [0i32; 1024];
-    analysed(
-        n,
-        sources,
-        targets,
-        &low[..rules],
-        &high[..rules],
-        1001000,
-        s,
-        t,
-        &mut latest,
-    )
+    analysed(&rounded, MAX_ROUNDED, s, t, &mut latest)
 }

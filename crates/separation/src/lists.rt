@@ -1,30 +1,16 @@
 // The schedule's two lists, written where the caller lends them.
-ghost use Rattle.std.specs.Prelude.{◌≡◌, true, ◌⊎◌, ℕ, ◌<◌, ◌≤◌, pos, ◌-ℤ◌, length, get_or};
+ghost use Rattle.std.specs.Prelude.{◌≡◌, ℕ, ◌<◌, ◌≤◌, pos, ◌-ℤ◌, length, get_or};
 ghost use Rattle.integers.specs.Within.{Within};
 ghost use Rattle.executions.specs.Steps.{Lesser};
 ghost use Rattle.sequences.specs.Filled.{Filled};
 ghost use Rattle.separation.specs.Parts.Lists.{TimeAt, DelayAt, RuleTimed};
-
-// Whether a list of that many times, or of that many delays, is too short.
-pub(crate) fn too_short(times: usize, n: usize, delays: usize, rules: usize) -> bool
-    ensures sound { result ≡ true → (times < n) ⊎ (delays < rules) }
-    ensures complete { (times < n) ⊎ (delays < rules) → result ≡ true }
-{
-    if times < n {
-        return true;
-    }
-    if delays < rules {
-        return true;
-    }
-    false
-}
 
 // x − y. It may pass 32 bits, so both are widened first.
 fn difference(x: i32, y: i32) -> i64
     requires { Within 2050048000 x × Within 2050048000 y }
     ensures { result ≡ x -ℤ y }
 {
-    x as i64 - y as i64
+    i64::from(x) - i64::from(y)
 }
 
 // The time of each event, U(v) − U(root). `latest` holds U.
@@ -34,10 +20,8 @@ pub(crate) fn write_times(n: usize, latest: &[i32], times: &mut [i64])
     ensures { Filled (pos 0) n (TimeAt latest.now) times.old times.new }
 {
     let root = latest[0];
-    let mut v = 0;
-    while v < n {
+    for v in 0..n {
         times[v] = difference(latest[v], root);
-        v += 1;
     }
 }
 
@@ -46,8 +30,7 @@ fn capped(start: i64, end: i64, most: i64) -> i64
     requires { Within 4100096000 start × Within 4100096000 end }
     ensures { Lesser (end -ℤ start) most result }
 {
-    let between = end - start;
-    if between < most { between } else { most }
+    most.min(end - start)
 }
 
 // The delay of each rule: the time between its ends, but not more than its most delay.
@@ -62,11 +45,9 @@ pub(crate) fn write_delays(
     requires timed { (i : ℕ) → i < length sources.now → RuleTimed sources.now targets.now mosts.now times.now i }
     ensures { Filled (pos 0) (length sources.now) (DelayAt sources.now targets.now mosts.now times.now) delays.old delays.new }
 {
-    let mut i = 0;
-    while i < sources.len() {
+    for i in 0..sources.len() {
         let source = sources[i];
         let target = targets[i];
         delays[i] = capped(times[source], times[target], mosts[i]);
-        i += 1;
     }
 }

@@ -9,10 +9,8 @@ pub mod Selection
 pub mod Insertion
 pub mod Points
 pub mod Holding
-pub mod Candidates
+pub mod Members
 pub mod Choosing
-pub mod Scanning
 pub mod Keeping
 pub mod Reaching
-pub mod Composing
 pub mod Promises

@@ -6,97 +6,105 @@
 // Nothing is asked of the caller. The definitions are in specs/, their laws in proofs/.
 #![tactic(auto)]
 
-mod order;
-mod reach;
-mod scan;
-mod sums;
-
-ghost use Rattle.std.specs.Prelude.{◌≡◌, min};
+ghost use Rattle.std.specs.Prelude.{◌≡◌, ◌↔◌, min, IsTrue};
 ghost use Rattle.sets.specs.Set.{pass_everything, pass_nothing};
-ghost use Rattle.sets.specs.Held.{held, pair_of, pairs_of, candidates};
+ghost use Rattle.sets.specs.Held.{limit_of, pair_of, held, pairs_of, candidates_of};
 ghost use Rattle.sets.specs.Promise.{ComposedTo, Valued, PrunedTo};
+ghost use Rattle.sets.specs.Parts.{NearChecked, NumbersSummed, LimitsSummed, PairValued, Left, Chosen};
 
-use crate::reach::{greater, pair_value};
-use crate::scan::{Found, next_pair};
-use crate::sums::{far, lesser_limit, plain, sum};
+// A limit of a pair. In their order `Unlimited` is above every number.
+#[derive(Clone, Copy, Debug, PartialEq, Eq, PartialOrd, Ord)]
+pub enum Limit {
+    Number(i64),
+    Unlimited,
+}
 
-// A pair (l, w). Each of the two is a number, or unlimited where its flag is set; the number beside a flag that is set is 0.
-#[derive(Clone, Copy)]
+// A pair (l, w).
+#[derive(Clone, Copy, Debug, PartialEq, Eq)]
 pub struct Pair {
-    pub l: i64,
-    pub w: i64,
-    pub l_unlimited: bool,
-    pub w_unlimited: bool,
+    pub l: Limit,
+    pub w: Limit,
 }
 
 // The pairs of a set in pruned order, in the first `count` places. The places beyond hold the unit.
-#[derive(Drop)]
+// Kept: an array with a count, since unit and zero are fixed values, each set with its pairs in an array (docs/DECISIONS.md, "Limits and sets in code"); no heap.
+#[derive(Clone, Debug, Drop, PartialEq, Eq)]
 pub struct PrunedSet {
     pub pairs: [Pair; 64],
     pub count: usize,
 }
 
-// What pruning leaves: a set, or that there are more pairs than were allowed, with pass-nothing for the set.
-#[derive(Drop)]
-pub struct Pruning {
-    pub more: bool,
-    pub set: PrunedSet,
+// A number that was to be added is beyond `BOUND` either side of zero; or, where a value was asked for, l and w of a pair are both unlimited.
+#[derive(Clone, Copy, Debug, PartialEq, Eq)]
+pub struct Outside;
+
+// Pruning leaves more pairs than are allowed.
+#[derive(Clone, Copy, Debug, PartialEq, Eq)]
+pub struct TooManyPairs;
+
+// Two numbers within it have a sum of 64 bits.
+const BOUND: i64 = 4000000000000000000;
+
+// The number, if it is within `BOUND`.
+fn near(a: i64) -> Result<i64, Outside>
+    ensures { NearChecked a result }
+{
+    if (-BOUND..=BOUND).contains(&a) {
+        Ok(a)
+    } else {
+        Err(Outside)
+    }
 }
 
-// The value of a set at a number.
-#[derive(Clone, Copy)]
-pub enum Reached {
-    // This number.
-    At(i64),
-    // The set has no pair.
-    Nothing,
-    // A number of the set, or the one that it was asked at, is beyond 4,000,000,000,000,000,000 either side of zero; or l and w of a pair are both unlimited.
-    Outside,
+// The sum of two numbers, if they are within `BOUND`.
+fn sum(a: i64, b: i64) -> Result<i64, Outside>
+    ensures { NumbersSummed a b result }
+{
+    Ok(near(a)? + near(b)?)
 }
 
-// Two pairs composed.
-#[derive(Clone, Copy)]
-pub enum Composition {
-    // This pair.
-    Made(Pair),
-    // A number that was to be added is beyond 4,000,000,000,000,000,000 either side of zero.
-    Outside,
+impl Limit {
+    // The sum of two limits.
+    fn plus(self, other: Limit) -> Result<Limit, Outside>
+        ensures { LimitsSummed (limit_of self) (limit_of other) result }
+    {
+        match (self, other) {
+            (Limit::Number(a), Limit::Number(b)) => sum(a, b).map(Limit::Number),
+            (Limit::Number(a), Limit::Unlimited) | (Limit::Unlimited, Limit::Number(a)) => {
+                near(a).map(|_| Limit::Unlimited)
+            }
+            (Limit::Unlimited, Limit::Unlimited) => Ok(Limit::Unlimited),
+        }
+    }
 }
 
 impl Pair {
     // The unit, which passes everything.
     pub const UNIT: Pair = Pair {
-        l: 0,
-        w: 0,
-        l_unlimited: false,
-        w_unlimited: true,
+        l: Limit::Number(0),
+        w: Limit::Unlimited,
     };
 
-    // This pair first and then q.
-    pub fn then(self, q: Pair) -> Composition
-        ensures { ComposedTo (pair_of self) (pair_of q) result }
+    // This pair first and then the next.
+    pub fn then(self, next: Pair) -> Result<Pair, Outside>
+        ensures { ComposedTo (pair_of self) (pair_of next) result }
     {
-        let l = plain(self.l, self.l_unlimited);
-        let w = plain(self.w, self.w_unlimited);
-        let step = plain(q.l, q.l_unlimited);
-        let cap = plain(q.w, q.w_unlimited);
-        if far(l) {
-            return Composition::Outside;
-        }
-        if far(w) {
-            return Composition::Outside;
-        }
-        if far(step) {
-            return Composition::Outside;
-        }
-        let long = sum(l, step);
-        let high = lesser_limit(sum(w, step), cap);
-        Composition::Made(Pair {
-            l: long.number,
-            w: high.number,
-            l_unlimited: long.unlimited,
-            w_unlimited: high.unlimited,
+        Ok(Pair {
+            l: self.l.plus(next.l)?,
+            w: self.w.plus(next.l)?.min(next.w),
         })
+    }
+
+    // The lesser of x + l and w.
+    fn value_at(self, x: i64) -> Result<i64, Outside>
+        ensures { PairValued (pair_of self) x result }
+    {
+        match (self.l, self.w) {
+            (Limit::Number(l), Limit::Number(w)) => Ok(sum(x, l)?.min(w)),
+            (Limit::Number(l), Limit::Unlimited) => sum(x, l),
+            (Limit::Unlimited, Limit::Number(w)) => Ok(w),
+            (Limit::Unlimited, Limit::Unlimited) => Err(Outside),
+        }
     }
 }
 
@@ -125,73 +133,55 @@ impl PrunedSet {
         PrunedSet::ZERO
     }
 
-    // The greatest of the pairs' values at x.
-    pub fn value_at(self, x: i64) -> Reached
-        ensures { Valued (pairs_of self) x result }
+    // The greatest of the pairs' values at x; none where there is no pair.
+    pub fn value_at(&self, x: i64) -> Result<Option<i64>, Outside>
+        ensures { Valued (pairs_of self.now) x result }
     {
-        let n = lesser(self.count, 64);
-        let pairs = self.pairs;
-        let mut reached = Reached::Nothing;
-        let mut i = 0;
-        while i < n {
-            let value = pair_value(pairs[i], x);
-            match value {
-                Reached::At(y) => {
-                    reached = greater(reached, y);
-                }
-                Reached::Nothing => {
-                    return Reached::Outside;
-                }
-                Reached::Outside => {
-                    return Reached::Outside;
-                }
-            }
-            i += 1;
+        let mut greatest = None;
+        for pair in &self.pairs[..self.count.min(64)] {
+            greatest = greatest.max(Some(pair.value_at(x)?));
         }
-        reached
+        Ok(greatest)
     }
 }
 
-// The lesser of two numbers.
-fn lesser(a: usize, b: usize) -> usize
-    ensures { result ≡ min a b }
+// Whether a pair is left to be selected, where `last` is the pair kept last.
+#[tactic(auto, using(crate::proofs::Choosing::below_is))]
+fn is_left(last: Option<Pair>, pair: Pair) -> bool
+    ensures { IsTrue result ↔ Left last (pair_of pair) }
 {
-    if a < b { a } else { b }
+    match last {
+        None => true,
+        Some(kept) => kept.l < pair.l,
+    }
 }
 
-// What pruning leaves of the candidates, if that is at most `most` pairs, and at most 64. Candidate i is (ls[i], ws[i]), either of them unlimited where its
-// flag is set; there are as many as the shortest of the four lists has entries.
-pub fn prune(
-    ls: &[i64],
-    l_unlimited: &[bool],
-    ws: &[i64],
-    w_unlimited: &[bool],
-    most: usize,
-) -> Pruning
-    ensures { PrunedTo (candidates ls.now l_unlimited.now ws.now w_unlimited.now) (min most 64) result }
+// The candidate that is selected next, where `last` is the pair kept last: of those with a greater l than it the one with the greatest w, and among these
+// with the greatest l.
+fn next_pair(candidates: &[Pair], last: Option<Pair>) -> Option<Pair>
+    ensures { Chosen candidates.now last result }
 {
-    let n = lesser(
-        lesser(ls.len(), l_unlimited.len()),
-        lesser(ws.len(), w_unlimited.len()),
-    );
-    let room = lesser(most, 64);
-    let mut pairs = [Pair::UNIT; 64];
-    let mut count: usize = 0;
-    let mut some = false;
-    let mut last = Pair::UNIT;
-    loop {
-        let found = next_pair(n, ls, l_unlimited, ws, w_unlimited, some, last);
-        let Found::At(p) = found else {
-            let set = PrunedSet { pairs, count };
-            return Pruning { more: false, set };
-        };
-        if count >= room {
-            let set = PrunedSet::zero();
-            return Pruning { more: true, set };
+    candidates
+        .iter()
+        .copied()
+        .filter(|pair| is_left(last, *pair))
+        .max_by_key(|pair| (pair.w, pair.l))
+}
+
+// What pruning leaves of the candidates, if that is at most `most` pairs, and at most 64.
+pub fn prune(candidates: &[Pair], most: usize) -> Result<PrunedSet, TooManyPairs>
+    ensures { PrunedTo (candidates_of candidates.now) (min most 64) result }
+{
+    let room = most.min(64);
+    let mut set = PrunedSet::zero();
+    let mut last = None;
+    while let Some(pair) = next_pair(candidates, last) {
+        if set.count >= room {
+            return Err(TooManyPairs);
         }
-        pairs[count] = p;
-        count += 1;
-        some = true;
-        last = p;
+        set.pairs[set.count] = pair;
+        set.count += 1;
+        last = Some(pair);
     }
+    Ok(set)
 }

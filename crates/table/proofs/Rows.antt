@@ -9,6 +9,7 @@
 --     table_alone                 where it is so the graph's verdict is the table's
 --     table_refused, table_done   what the table's function promises then
 -- A graph is refused at row 0 or never, since its verdict is one and the same for each row: so what is refused has left no row behind. Assumes nothing.
+use Rattle.std.proofs.Common.{Result, Ok, Err, ap}
 use mathlib.Core.Path.{◌≡◌, refl, sym, subst, subst₂, ◌∙◌}
 use mathlib.Core.Logic.{inl, inr}
 use mathlib.Core.List.{List, [], ◌∷◌, ◌++◌}
@@ -29,7 +30,12 @@ use Rattle.graphs.proofs.Refusals.{graph_alone, graph_place, graph_verdict_uniqu
 use Rattle.refusals.proofs.Counts.{counts_given, counts_in}
 use Rattle.executions.specs.Separation.{Separation}
 use Rattle.executions.proofs.Sizes.{times_within}
-use Rattle.separation.specs.declared.Answer.{Answer}
+use Rattle.refusals.specs.declared.Refusal.{Refusal}
+use Rattle.refusals.specs.declared.Refusal.TheVariants.{ShortList}
+use Rattle.refusals.specs.Numbers.{number_of, place_of, number_in, place_in}
+use Rattle.refusals.proofs.Unique.{some_number}
+use Rattle.separation.specs.declared.Separated.{Separated}
+use Rattle.separation.specs.Numbers.{answer_numbers}
 use Rattle.separation.specs.Promise.{at, Answered, Written, ShortLists}
 use Rattle.table.specs.Table.{entry, RowFilled, RowsFilled, OthersKept, ShortTable, TableVerdict, TableAnswered}
 use Rattle.table.specs.Parts.Rows.{RowKept, RowCopied, RowAnswered}
@@ -62,8 +68,8 @@ copied_more {k} {s} {times} {table₀} {table} {x} room c e =
 
 -- ---- one row answered: the times of the latest schedule against s
 
-module _ {g : Graph} {s : ℕ} {a : Answer} {times₀ delays₀ times delays : List ℤ} (known : s < g.events) (p : Answered g s s (ShortLists g times₀ delays₀) a) (w : Written g s a times₀ delays₀ times delays) where
-  pub times_small : a.refusal ≡ 0 → (v : ℕ) → v < g.events → Within 1023000000 (at times v)
+module _ {g : Graph} {s : ℕ} (x : Result Separated Refusal) {times₀ delays₀ times delays : List ℤ} (known : s < g.events) (p : Answered g s s (ShortLists g times₀ delays₀) (answer_numbers x)) (w : Written g s (answer_numbers x) times₀ delays₀ times delays) where
+  pub times_small : (answer_numbers x).refusal ≡ 0 → (v : ℕ) → v < g.events → Within 1023000000 (at times v)
   times_small e v l = times_within (p.found e).graph.sized (p.found e).graph.acyclic (w.schedule e).execution v l
 
   module _ (room : g.events ≤ length times₀) (room' : rules g ≤ length delays₀) where
@@ -71,24 +77,28 @@ module _ {g : Graph} {s : ℕ} {a : Answer} {times₀ delays₀ times delays : L
     enough (inl l) = omega arith
     enough (inr l) = omega arith
 
-    pub row_refused : (a.refusal ≡ 0 → ⊥) → {table : List ℤ} → RowAnswered g s a table table
-    row_refused n =
+    verdict : GraphVerdict g (answer_numbers x).refusal (answer_numbers x).place
+    verdict = graph_alone enough known known (answer_numbers x).refusal (answer_numbers x).place p.verdict
+
+    pub row_refused : {r : Refusal} → x ≡ Err r → {table : List ℤ} → RowAnswered g s (Err r) table table
+    row_refused {r} e =
         record {
-          verdict = graph_alone enough known known a.refusal a.place p.verdict;
-          graph = λ e. absurd (n e);
-          filled = λ e. absurd (n e);
+          verdict = subst (λ (y : Result Separated Refusal). GraphVerdict g (answer_numbers y).refusal (answer_numbers y).place) e verdict;
+          graph = λ z. absurd (some_number r z);
+          filled = λ z. absurd (some_number r z);
           kept = row_same;
           untouched = λ _. refl;
         }
 
-    pub row_answered : a.refusal ≡ 0 → {table₀ table : List ℤ} → RowCopied g.events s times table₀ table → RowAnswered g s a table₀ table
+    pub row_answered : {f : Separated} → x ≡ Ok f → {table₀ table : List ℤ} → RowCopied g.events s times table₀ table → RowAnswered g s (Ok tt) table₀ table
     row_answered e {table = table} c =
+        let zero : (answer_numbers x).refusal ≡ 0 = ap (λ (y : Result Separated Refusal). (answer_numbers y).refusal) e in
         record {
-          verdict = graph_alone enough known known a.refusal a.place p.verdict;
-          graph = λ _. (p.found e).graph;
-          filled = λ _. record { each = λ t l. subst (Separation g s t) (sym (c.copied t l)) ((w.schedule e).latest t l) };
+          verdict = subst (λ (y : Result Separated Refusal). GraphVerdict g (answer_numbers y).refusal (answer_numbers y).place) e verdict;
+          graph = λ _. (p.found zero).graph;
+          filled = λ _. record { each = λ t l. subst (Separation g s t) (sym (c.copied t l)) ((w.schedule zero).latest t l) };
           kept = c.kept;
-          untouched = λ n. absurd (n e);
+          untouched = λ n. absurd (n refl);
         }
 
 -- ---- all rows
@@ -115,8 +125,8 @@ row_stays : {g : Graph} {s k : ℕ} {table₀ table : List ℤ} → g.events ≤
 row_stays {g} {s} {k} {table₀} {table} few l kept r =
     record { each = λ t h. subst (Separation g s t) (sym (kept.other (s * 64 + t) (λ u m e. let no : ⊥ = omega arith in no))) (r.each t h) }
 
-module _ {g : Graph} {k : ℕ} {a : Answer} {table₀ table table' : List ℤ} (d : RowsDone g k table₀ table) (r : RowAnswered g k a table table') where
-  pub rows_more : g.events ≤ 64 → a.refusal ≡ 0 → RowsDone g (k + 1) table₀ table'
+module _ {g : Graph} {k : ℕ} (x : Result Unit Refusal) {table₀ table table' : List ℤ} (d : RowsDone g k table₀ table) (r : RowAnswered g k x table table') where
+  pub rows_more : g.events ≤ 64 → number_in x ≡ 0 → RowsDone g (k + 1) table₀ table'
   rows_more few e =
       record {
         filled = record { row = below_more (λ s. RowFilled g s table') k (λ s l. row_stays few l r.kept (d.filled.row s l)) (r.filled e) };
@@ -125,18 +135,18 @@ module _ {g : Graph} {k : ℕ} {a : Answer} {table₀ table table' : List ℤ} (
               same_length = r.kept.same_length ∙ d.others.same_length;
               other = λ i none. r.kept.other i (λ t l. none k t (omega arith) l) ∙ d.others.other i (λ s t l. none s t (omega arith));
             };
-        accepted = λ _. subst₂ (GraphVerdict g) e (graph_place g a.refusal a.place e r.verdict) r.verdict;
+        accepted = λ _. subst₂ (GraphVerdict g) e (graph_place g (number_in x) (place_in x) e r.verdict) r.verdict;
         graph = λ _. r.graph e;
         untouched = λ h. absurd (let no : ⊥ = omega arith in no);
       }
 
   -- a graph that is refused was refused at once
-  first_row : (a.refusal ≡ 0 → ⊥) → k ≡ 0
+  first_row : (number_in x ≡ 0 → ⊥) → k ≡ 0
   first_row n = go (ℕ_discrete k 0)
     where
       go : Dec (k ≡ 0) → k ≡ 0
       go (yes e) = e
-      go (no some) = absurd (n (sym (graph_verdict_unique g 0 0 a.refusal a.place (d.accepted (omega arith)) r.verdict).0))
+      go (no some) = absurd (n (sym (graph_verdict_unique g 0 0 (number_in x) (place_in x) (d.accepted (omega arith)) r.verdict).0))
 
 -- ---- the table
 
@@ -145,14 +155,14 @@ pub record TableSmall (g : Graph) (table₀ : List ℤ) : Type 0 where
   pub room : g.events * 64 ≤ length table₀
 
 module _ {g : Graph} {table₀ : List ℤ} where
-  front_refused : (k : ℕ) → (k ≡ 0 → ⊥) → TableVerdict g table₀ k 0 → TableAnswered g table₀ (record { refusal = k; place = 0 }) table₀
-  front_refused k some v = record { verdict = v; graph = λ e. absurd (some e); filled = λ e. absurd (some e); others = λ e. absurd (some e); kept = λ _. refl }
+  front_refused : (r : Refusal) → TableVerdict g table₀ (number_of r) (place_of r) → TableAnswered g table₀ (Err r) table₀
+  front_refused r v = record { verdict = v; graph = λ e. absurd (some_number r e); filled = λ e. absurd (some_number r e); others = λ e. absurd (some_number r e); kept = λ _. refl }
 
-  pub table_counts : (k : ℕ) → (k ≡ 0 → ⊥) → FirstOf (count_checks 64 1024 g) k 0 → TableAnswered g table₀ (record { refusal = k; place = 0 }) table₀
-  table_counts k some v = front_refused k some (counts_given _ some v)
+  pub table_counts : (r : Refusal) → FirstOf (count_checks 64 1024 g) (number_of r) (place_of r) → TableAnswered g table₀ (Err r) table₀
+  table_counts r v = front_refused r (counts_given _ (some_number r) v)
 
-  pub table_short : NoneApplies (count_checks 64 1024 g) → length table₀ < g.events * 64 → TableAnswered g table₀ (record { refusal = 23; place = 0 }) table₀
-  table_short none l = front_refused 23 (λ e. let no : ⊥ = omega arith in no) (passed none.0 (passed none.1.0 (given (at_zero l))))
+  pub table_short : NoneApplies (count_checks 64 1024 g) → length table₀ < g.events * 64 → TableAnswered g table₀ (Err ShortList) table₀
+  table_short none l = front_refused ShortList (passed none.0 (passed none.1.0 (given (at_zero l))))
 
   module _ (small : TableSmall g table₀) where
     -- the table's limits are less than the graph's
@@ -183,17 +193,17 @@ module _ {g : Graph} {table₀ : List ℤ} where
         passed_all (count_checks 1024 4096 g) (FirstThen (rule_checks 1000000 g) (FirstOf (path_checks g))) j p graph_counts
         (rest_of (count_checks 64 1024 g ++ (check 23 (AtZero (ShortTable g table₀)) ∷ [])) (FirstThen (rule_checks 1000000 g) (FirstOf (path_checks g))) j p (small.none.0, (small.none.1.0, (long, tt))) v)
 
-    pub table_refused : {k : ℕ} {a : Answer} {table table' : List ℤ} → RowsDone g k table₀ table → RowAnswered g k a table table' → (a.refusal ≡ 0 → ⊥) → TableAnswered g table₀ (record { refusal = a.refusal; place = a.place }) table'
-    table_refused {a = a} d r n =
+    pub table_refused : {k : ℕ} (r : Refusal) {table table' : List ℤ} → RowsDone g k table₀ table → RowAnswered g k (Err r) table table' → TableAnswered g table₀ (Err r) table'
+    table_refused r d a =
         record {
-          verdict = table_verdict a.refusal a.place r.verdict;
-          graph = λ e. absurd (n e);
-          filled = λ e. absurd (n e);
-          others = λ e. absurd (n e);
-          kept = λ _. r.untouched n ∙ d.untouched (first_row d r n);
+          verdict = table_verdict (number_of r) (place_of r) a.verdict;
+          graph = λ e. absurd (some_number r e);
+          filled = λ e. absurd (some_number r e);
+          others = λ e. absurd (some_number r e);
+          kept = λ n. a.untouched n ∙ d.untouched (first_row (Err r) d a n);
         }
 
-    pub table_done : {k : ℕ} {table : List ℤ} → k ≡ g.events → RowsDone g k table₀ table → TableAnswered g table₀ (record { refusal = 0; place = 0 }) table
+    pub table_done : {k : ℕ} {table : List ℤ} → k ≡ g.events → RowsDone g k table₀ table → TableAnswered g table₀ (Ok tt) table
     table_done {k} {table} e d =
         let all : RowsDone g g.events table₀ table = subst (λ (m : ℕ). RowsDone g m table₀ table) e d in
         record {

@@ -4,6 +4,7 @@
 --     tables_agree            two tables that hold the separations there and what they held elsewhere are equal
 --     table_unique            so are the answers and the tables
 -- Assumes nothing.
+use Rattle.std.proofs.Common.{Result, refl}
 use mathlib.Core.Path.{◌≡◌, sym, subst, ◌∙◌}
 use mathlib.Core.Logic.{◌⊎◌, inl, inr, ⊎_elim}
 use mathlib.Core.List.{List}
@@ -20,7 +21,9 @@ use Rattle.graphs.specs.Refusal.{path_checks}
 use Rattle.graphs.proofs.Refusals.{path_places}
 use Rattle.executions.proofs.Unique.{separation_unique}
 use Rattle.separation.specs.Promise.{at}
-use Rattle.table.specs.declared.TableAnswer.{TableAnswer}
+use Rattle.refusals.specs.declared.Refusal.{Refusal}
+use Rattle.refusals.specs.Numbers.{number_in, place_in}
+use Rattle.refusals.proofs.Unique.{same_result}
 use Rattle.table.specs.Table.{RowsFilled, OthersKept, table_checks, TableVerdict, TableAnswered}
 
 pub table_verdict_unique : (g : Graph) (table₀ : List ℤ) → OneVerdict (TableVerdict g table₀)
@@ -67,18 +70,14 @@ module _ {g : Graph} {table₀ table table' : List ℤ} where
       each : (i : ℕ) → at table i ≡ at table' i
       each i = ⊎_elim (inside i) (λ none. o.other i none ∙ sym (o'.other i none)) (placed g.events g.events i)
 
--- an answer is its two numbers
-same_answer : {a b : TableAnswer} → (a.refusal ≡ b.refusal) × (a.place ≡ b.place) → a ≡ b
-same_answer same = λ i. record { refusal = same.0 i; place = same.1 i }
-
-pub table_unique : {g : Graph} {table₀ : List ℤ} {a b : TableAnswer} {table table' : List ℤ} → TableAnswered g table₀ a table → TableAnswered g table₀ b table' → (a ≡ b) × (table ≡ table')
-table_unique {g} {table₀} {a} {b} {table} {table'} x y = (same_answer same, go (ℕ_discrete a.refusal 0))
+pub table_unique : {g : Graph} {table₀ : List ℤ} (x y : Result Unit Refusal) {table table' : List ℤ} → TableAnswered g table₀ x table → TableAnswered g table₀ y table' → (x ≡ y) × (table ≡ table')
+table_unique {g} {table₀} x y {table} {table'} a b = (same_result x y same.0 same.1 (λ _ _ _ _. refl), go (ℕ_discrete (number_in x) 0))
   where
-    same : (a.refusal ≡ b.refusal) × (a.place ≡ b.place)
-    same = table_verdict_unique g table₀ a.refusal a.place b.refusal b.place x.verdict y.verdict
+    same : (number_in x ≡ number_in y) × (place_in x ≡ place_in y)
+    same = table_verdict_unique g table₀ _ _ _ _ a.verdict b.verdict
 
-    go : Dec (a.refusal ≡ 0) → table ≡ table'
+    go : Dec (number_in x ≡ 0) → table ≡ table'
     go (yes e) =
         let f = sym same.0 ∙ e in
-        tables_agree (x.filled e) (x.others e) (y.filled f) (y.others f)
-    go (no n) = x.kept n ∙ sym (y.kept (λ f. n (same.0 ∙ f)))
+        tables_agree (a.filled e) (a.others e) (b.filled f) (b.others f)
+    go (no n) = a.kept n ∙ sym (b.kept (λ f. n (same.0 ∙ f)))

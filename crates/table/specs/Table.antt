@@ -7,16 +7,17 @@
 --     ShortTable g table₀     == refusal 23: the lent table has too few places
 --     table_checks g table₀    == refusals 21, 22, 23, 2 and 3, in this order, with the pair program's limits of events and rules
 --     TableVerdict g table₀   == the refusals of a table: these, 5 and 6
---     TableAnswered g table₀ a table == a is the answer, and the lent table, which held table₀, holds table
+--     TableAnswered g table₀ x table == x is the answer, and the lent table, which held table₀, holds table
 -- Assumes nothing.
-use Rattle.std.specs.Prelude.{◌≡◌, List, ◌∷◌, ◌++◌, ℕ, ◌+◌, ◌*◌, ◌<◌, ℤ, pos, length, get_or}
+use Rattle.std.specs.Prelude.{◌≡◌, Result, List, ◌∷◌, ◌++◌, ℕ, ◌+◌, ◌*◌, ◌<◌, ℤ, pos, length, get_or}
 use Rattle.verdicts.specs.Verdict.{Check, check, FirstOf, AtZero}
 use Rattle.graphs.specs.Graph.{Graph}
 use Rattle.graphs.specs.Limits.{EventGraph}
 use Rattle.graphs.specs.Refusal.{count_checks, rule_checks, path_checks}
 use Rattle.executions.specs.Separation.{Separation}
 use Rattle.separation.specs.Promise.{at}
-use Rattle.table.specs.declared.TableAnswer.{TableAnswer}
+use Rattle.refusals.specs.declared.Refusal.{Refusal}
+use Rattle.refusals.specs.Numbers.{number_in, place_in}
 
 abbrev pub entry : List ℤ → ℕ → ℕ → ℤ
 entry table s t = get_or table (s * 64 + t) (pos 0)
@@ -45,9 +46,9 @@ abbrev pub TableVerdict : Graph → List ℤ → ℕ → ℕ → Type 0
 TableVerdict g table₀ = FirstOf (table_checks g table₀ ++ path_checks g)
 
 -- "A refusal returns its number and place … and every lent list keeps its contents"
-pub record TableAnswered (g : Graph) (table₀ : List ℤ) (a : TableAnswer) (table : List ℤ) : Type 0 where
-  pub verdict : TableVerdict g table₀ a.refusal a.place
-  pub graph : a.refusal ≡ 0 → EventGraph 1000000 g
-  pub filled : a.refusal ≡ 0 → RowsFilled g g.events table
-  pub others : a.refusal ≡ 0 → OthersKept g.events g.events table₀ table
-  pub kept : (a.refusal ≡ 0 → ⊥) → table ≡ table₀
+pub record TableAnswered (g : Graph) (table₀ : List ℤ) (x : Result Unit Refusal) (table : List ℤ) : Type 0 where
+  pub verdict : TableVerdict g table₀ (number_in x) (place_in x)
+  pub graph : number_in x ≡ 0 → EventGraph 1000000 g
+  pub filled : number_in x ≡ 0 → RowsFilled g g.events table
+  pub others : number_in x ≡ 0 → OthersKept g.events g.events table₀ table
+  pub kept : (number_in x ≡ 0 → ⊥) → table ≡ table₀

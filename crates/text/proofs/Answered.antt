@@ -1,10 +1,11 @@
 -- The promises of the text form fix its results: two results allowed for one text are equal. And what they never are.
 --     text_answered_exactly   a refusal is given exactly when its rule says: whatever number and place the verdict allows, the answer has them
 --     text_answer_unique      two answers to one question about one text
+--     text_result_unique      so two results are equal
 --     entered_unique          two numbers of the C entry
 --     pairs_verdict_unique    the number and place of the pair program's refusal
 --     output_unique           two outputs of the pair program
---     pairs_unique            what two runs of it give and leave in the lent list
+--     pairs_unique, pairs_result_unique    what two runs of it give and leave in the lent list
 --     ends_known              a text's rules name only its events
 --     written_inside          what write_pairs counts lies in the list
 --     written_length          the list keeps its length, since every output fits
@@ -15,6 +16,7 @@
 --     entry_found, entry_refused      so the C entry's number is above −4,000,000,000 for a separation, and below for a refusal
 --     never_mistaken          and from the number alone the refusal is known
 -- Assumes nothing.
+use Rattle.std.proofs.Common.{Result, Ok, Err}
 use mathlib.Core.Path.{◌≡◌, refl, sym, ap, subst, ◌∙◌}
 use mathlib.Core.List.{List, [], ◌∷◌, ◌++◌}
 use Prim.Native.Nat.{ℕ, zero, suc, ◌+◌, ◌<◌, ◌≤◌}
@@ -36,13 +38,17 @@ use Rattle.graphs.proofs.Unique.{depth_unique, ends_kept}
 use Rattle.graphs.proofs.Refusals.{question_places, path_places, graph_verdict_unique}
 use Rattle.executions.proofs.Unique.{separation_unique}
 use Rattle.executions.proofs.Sizes.{exact_size}
+use Rattle.refusals.specs.declared.Refusal.{Refusal}
+use Rattle.refusals.proofs.Unique.{some_number, same_refusal}
+use Rattle.separation.specs.declared.Separated.{Separated}
 use Rattle.separation.specs.declared.Answer.{Answer}
+use Rattle.separation.specs.Numbers.{answer_numbers}
 use Rattle.separation.specs.Promise.{Verdict, Found}
-use Rattle.separation.proofs.Promises.{SameValues, answers_agree}
+use Rattle.separation.proofs.Promises.{SameValues, answers_agree, told_by_numbers}
 use Rattle.text.specs.Grammar.{Rule, Text}
 use Rattle.text.specs.Reading.{events, sources_of, targets_of, graph_of_rules, text_checks, TextVerdict}
 use Rattle.text.specs.Answers.{NoLists, TextAnswered, entry_number, Entered}
-use Rattle.text.specs.Output.{ending, pairs, Lines, pair_header, PairsVerdict, Output, table, refused, RefusedLine, ShortOutput, PairsWritten}
+use Rattle.text.specs.Output.{ending, pairs, Lines, pair_header, PairsVerdict, Output, table, refused, RefusedLine, ShortOutput, output_numbers, PairsWritten}
 use Rattle.text.specs.declared.PairsAnswer.{PairsAnswer}
 use Rattle.text.proofs.Texts.{text_unique}
 use Rattle.text.proofs.Unique.{verdict_unique}
@@ -81,6 +87,9 @@ module _ {bs : List ℕ} {s t : ℕ} where
   pub text_answer_unique : {a b : Answer} → TextAnswered bs s t a → TextAnswered bs s t b → a ≡ b
   text_answer_unique x y =
       answers_agree (text_answered_exactly x y.verdict) (λ e f. same_values (x.found e) (y.found f)) x.nothing y.nothing
+
+  pub text_result_unique : (x y : Result Separated Refusal) → TextAnswered bs s t (answer_numbers x) → TextAnswered bs s t (answer_numbers y) → x ≡ y
+  text_result_unique x y a b = told_by_numbers x y (text_answer_unique a b)
 
   pub entered_unique : {x y : ℤ} → Entered bs s t x → Entered bs s t y → x ≡ y
   entered_unique a b =
@@ -125,6 +134,17 @@ module _ {bs : List ℕ} where
       go (no n) =
           let m : b.refusal ≡ 0 → ⊥ = λ f. n (same.0 ∙ f) in
           (same_answer same (x.no_bytes n ∙ sym (y.no_bytes m)), x.kept n ∙ sym (y.kept m))
+
+output_told : (x y : Result ℕ Refusal) → output_numbers x ≡ output_numbers y → x ≡ y
+output_told (Ok k) (Ok l) e = ap Ok (λ i. (e i).bytes)
+output_told (Ok k) (Err r) e = absurd (some_number r (λ i. (sym e i).refusal))
+output_told (Err r) (Ok l) e = absurd (some_number r (λ i. (e i).refusal))
+output_told (Err r) (Err q) e = ap Err (same_refusal r q (λ i. (e i).refusal) (λ i. (e i).place))
+
+pub pairs_result_unique : {bs out₀ out out' : List ℕ} (x y : Result ℕ Refusal) → PairsWritten bs out₀ (output_numbers x) out → PairsWritten bs out₀ (output_numbers y) out' → (x ≡ y) × (out ≡ out')
+pairs_result_unique x y p q =
+    let (same, bytes) = pairs_unique p q in
+    (output_told x y same, bytes)
 
 -- what is written lies in the list that is lent
 pub written_inside : {bs out₀ out : List ℕ} {a : PairsAnswer} → PairsWritten bs out₀ a out → a.bytes ≤ length out

@@ -1,10 +1,12 @@
 -- The verdict on the counts of a reading: n events, r rules.
 --     count_21, count_22, count_23, count_0    the refusals, and that none applies, each from the facts that shut out the earlier ones
+--     one_short                                where the shortest list is too short, one of them is
 --     CountsRight, counts_right                what is known where number 0 is given
 -- Assumes nothing.
 use mathlib.Core.Path.{◌≡◌}
 use mathlib.Core.Logic.{◌⊎◌, inl, inr}
-use Prim.Native.Nat.{ℕ, ◌<◌, ◌≤◌}
+use Prim.Native.Nat.{ℕ, ◌<◌, ◌≤◌, min}
+use native.Mathlib.Decide.{dec_lt}
 use native.Mathlib.Omega.{arith}
 use Rattle.verdicts.specs.Verdict.{given, passed, Accepted, FirstOf}
 use Rattle.verdicts.proofs.Verdicts.{at_zero, misses_at_zero, holds_not, none_accepted, accepted_none}
@@ -23,6 +25,16 @@ long s t d D (inl l) = omega arith
 long s t d D (inr (inl l)) = omega arith
 long s t d D (inr (inr (inl l))) = omega arith
 long s t d D (inr (inr (inr l))) = omega arith
+
+-- where the shortest list is too short, one of them is
+pub one_short : {r sources targets leasts mosts : ℕ} → min (min (min sources targets) leasts) mosts < r → (sources < r) ⊎ ((targets < r) ⊎ ((leasts < r) ⊎ (mosts < r)))
+one_short {r} {sources} {targets} {leasts} {mosts} l = go (dec_lt sources r) (dec_lt targets r) (dec_lt leasts r)
+  where
+    go : Dec (sources < r) → Dec (targets < r) → Dec (leasts < r) → (sources < r) ⊎ ((targets < r) ⊎ ((leasts < r) ⊎ (mosts < r)))
+    go (yes s) t d = inl s
+    go (no s) (yes t) d = inr (inl t)
+    go (no s) (no t) (yes d) = inr (inr (inl d))
+    go (no s) (no t) (no d) = inr (inr (inr (omega arith)))
 
 module _ {n r sources targets leasts mosts : ℕ} where
   pub count_21 : 64 < n → FirstOf (reading_checks n r sources targets leasts mosts) 21 0

@@ -23,7 +23,6 @@ use Rattle.verdicts.specs.Verdict.{check, Accepted, FirstThen, AtZero}
 use Rattle.verdicts.proofs.Verdicts.{Misses, NoneApplies, Refusals, misses_at_zero, holds_not, passed_all, rest_of, then_more_after, not_accepted, accepted_none}
 use Rattle.separation.specs.declared.Answer.{Answer}
 use Rattle.separation.specs.Promise.{Verdict, Answered, Nothing}
-use Rattle.text.specs.declared.Reading.{Reading}
 use Rattle.text.specs.Grammar.{Rule, Text}
 use Rattle.text.specs.Reading.{
   events,
@@ -37,6 +36,7 @@ use Rattle.text.specs.Reading.{
   text_alone,
   text_checks,
   TextVerdict,
+  ReadingNumbers,
   ReadOff,
   ListsHold,
   RulesWritten,
@@ -80,7 +80,7 @@ module _ {bs : List ℕ} {Short : List Rule → Type 0} where
 
 -- ---- the lists after a reading
 
-pub record Handed (bs : List ℕ) (a : Reading) (ss ts : List ℕ) (ds Ds : List ℤ) : Type 0 where
+pub record Handed (bs : List ℕ) (a : ReadingNumbers) (ss ts : List ℕ) (ds Ds : List ℤ) : Type 0 where
   pub rs : List Rule
   pub text : Text bs rs
   pub event_count : a.events ≡ events rs
@@ -100,7 +100,7 @@ held_graph {rs} {ss₀} {ts₀} {ds₀} {Ds₀} {ss} {ts} {ds} {Ds} {n} {m} h e 
 pub few_taken : {m b : ℕ} (xs : List ℕ) → m ≤ b → length (take m xs) ≤ b
 few_taken {m} {b} xs l = omega (arith, length-take m xs)
 
-module _ {bs : List ℕ} {a : Reading} {ss₀ ts₀ : List ℕ} {ds₀ Ds₀ : List ℤ} {ss ts : List ℕ} {ds Ds : List ℤ} (w : RulesWritten bs a ss₀ ts₀ ds₀ Ds₀ ss ts ds Ds) (r : ReadOff bs (ShortForRules ss₀ ts₀ ds₀ Ds₀) a) where
+module _ {bs : List ℕ} {a : ReadingNumbers} {ss₀ ts₀ : List ℕ} {ds₀ Ds₀ : List ℤ} {ss ts : List ℕ} {ds Ds : List ℤ} (w : RulesWritten bs a ss₀ ts₀ ds₀ Ds₀ ss ts ds Ds) (r : ReadOff bs (ShortForRules ss₀ ts₀ ds₀ Ds₀) a) where
   pub handed : a.refusal ≡ 0 → Handed bs a ss ts ds Ds
   handed e =
       let (rs, text, n, m) = r.found e in

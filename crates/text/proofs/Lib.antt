@@ -4,7 +4,6 @@ pub mod RowLaws
 pub mod WholeRow
 pub mod Texts
 pub mod Unique
-pub mod Beginnings
 pub mod Progress
 pub mod Writing
 pub mod Counts

@@ -2,12 +2,14 @@
 --     list_refused      into a list that is too short nothing is written
 --     output_written    an output put into a list that is long enough
 --     OutputPut         an output written from place 0 on
---     read_refused_put  the line of a refusal of the reader's
---     refused_put       and of one of the graph's
---     table_put         the table
+--     refusal_put       the line of a refusal
+--     table_verdict     the pair program refuses a text as its table is refused
+--     tabled            what is known of a table that is not
+--     table_put         and its lines
 --     text_counts       a text that is not refused has a graph as small as a table's
 -- Assumes nothing.
-use mathlib.Core.Path.{◌≡◌, refl, ap, sym, subst, subst₂, ◌∙◌}
+use Rattle.std.proofs.Common.{Result, Ok, Err}
+use mathlib.Core.Path.{◌≡◌, refl, ap, sym, subst, ◌∙◌}
 use mathlib.Core.List.{List, [], ◌∷◌, ◌++◌}
 use Prim.Native.Nat.{ℕ, ◌+◌, ◌≤◌}
 use native.Mathlib.Omega.{arith}
@@ -18,23 +20,26 @@ use Rattle.graphs.specs.Limits.{EventGraph}
 use Rattle.graphs.specs.Refusal.{EventsOutside, no_events, many_events, RulesOutside, many_rules, targets_differ, leasts_differ, mosts_differ, count_checks, GraphVerdict}
 use Rattle.verdicts.specs.Verdict.{given, check, AtZero}
 use Rattle.verdicts.proofs.Verdicts.{NoneApplies, misses_at_zero, none_accepted}
-use Rattle.graphs.proofs.Refusals.{graph_place}
+use Rattle.refusals.specs.declared.Refusal.{Refusal}
+use Rattle.refusals.specs.declared.Refusal.TheVariants.{ShortList}
+use Rattle.refusals.specs.Numbers.{number_of, place_of, number_in, place_in}
+use Rattle.refusals.proofs.Unique.{some_number}
 use Rattle.text.specs.declared.Reading.{Reading}
+use Rattle.text.specs.Parts.Tabling.{Tabled}
 use Rattle.text.specs.Grammar.{Rule}
-use Rattle.text.specs.Reading.{events, graph_of_rules, ShortForRules, ReadOff, RulesWritten}
-use Rattle.text.specs.Output.{pairs, ending, Lines, pair_header, RefusedLine, PairsVerdict, Output, table, refused, output_places, ShortOutput, PairsWritten}
+use Rattle.text.specs.Reading.{events, graph_of_rules, ShortForRules, reading_numbers, ReadOff, RulesWritten}
+use Rattle.text.specs.Output.{pairs, ending, Lines, pair_header, RefusedLine, PairsVerdict, Output, table, refused, output_places, ShortOutput, output_numbers, PairsWritten}
 use Rattle.numerals.specs.Appending.{Appended}
-use Rattle.table.specs.declared.TableAnswer.{TableAnswer}
 use Rattle.table.specs.Table.{RowsFilled, TableAnswered}
 use Rattle.table.proofs.Rows.{table_alone}
-use Rattle.text.proofs.Handed.{handed, accepted_on, read_refused}
+use Rattle.text.proofs.Handed.{handed, accepted_on}
 
 -- ---- the lent list
 
 abbrev pub OutputPut : List ℕ → List ℕ → List ℕ → ℕ → Type 0
 OutputPut bs out₀ out k = (bytes : List ℕ) × Output bs bytes × Appended out₀ 0 bytes out k
 
-pub list_refused : {bs out : List ℕ} → ShortOutput out → PairsWritten bs out (record { refusal = 23; place = 0; bytes = 0 }) out
+pub list_refused : {bs out : List ℕ} → ShortOutput out → PairsWritten bs out (output_numbers (Err ShortList)) out
 list_refused short =
     record {
       verdict = given (record { zero_place = refl; holds = short });
@@ -43,7 +48,7 @@ list_refused short =
       kept = λ n. refl;
     }
 
-pub output_written : {bs out₀ out : List ℕ} {k : ℕ} → output_places ≤ length out₀ → OutputPut bs out₀ out k → PairsWritten bs out₀ (record { refusal = 0; place = 0; bytes = k }) out
+pub output_written : {bs out₀ out : List ℕ} {k : ℕ} → output_places ≤ length out₀ → OutputPut bs out₀ out k → PairsWritten bs out₀ (output_numbers (Ok k)) out
 output_written {out₀ = out₀} {out} room (bytes, o, a) =
     let count : length bytes ≡ 0 + length bytes = omega arith in
     record {
@@ -69,8 +74,8 @@ LineWritten j p out₀ out k = (line : List ℕ) × RefusedLine j p line × Appe
 abbrev pub TableWritten : Graph → ℕ → List ℕ → List ℕ → ℕ → Type 0
 TableWritten g n out₀ out k = (lines : List ℕ) × Lines g (pairs n) lines × Appended out₀ 0 (pair_header ++ (ending ++ lines)) out k
 
-refusal_put : {bs out₀ out : List ℕ} {j p k : ℕ} → (j ≡ 0 → ⊥) → PairsVerdict bs j p → LineWritten j p out₀ out k → OutputPut bs out₀ out k
-refusal_put {j = j} {p = p} n v (line, is-line, a) = (line, refused j p (not_zero n) v is-line, a)
+pub refusal_put : {bs out₀ out : List ℕ} {k : ℕ} (r : Refusal) → PairsVerdict bs (number_of r) (place_of r) → LineWritten (number_of r) (place_of r) out₀ out k → OutputPut bs out₀ out k
+refusal_put r v (line, is-line, a) = (line, refused (number_of r) (place_of r) (not_zero (some_number r)) v is-line, a)
 
 -- ---- after a reading
 
@@ -88,36 +93,40 @@ text_counts rs few few_rows = (misses_at_zero no_21, (misses_at_zero no_22, tt))
     no_22 (leasts_differ d) = d (length-map rs (λ (r : Rule). r.least) ∙ sym (length-map rs (λ (r : Rule). r.source)))
     no_22 (mosts_differ d) = d (length-map rs (λ (r : Rule). r.most) ∙ sym (length-map rs (λ (r : Rule). r.source)))
 
-module _ {bs : List ℕ} {a : Reading} {ss₀ ts₀ : List ℕ} {ds₀ Ds₀ : List ℤ} {ss ts : List ℕ} {ds Ds : List ℤ} (w : RulesWritten bs a ss₀ ts₀ ds₀ Ds₀ ss ts ds Ds) (r : ReadOff bs (ShortForRules ss₀ ts₀ ds₀ Ds₀) a) where
-  pub read_refused_put : {out₀ out : List ℕ} {k : ℕ} → length ss₀ ≡ 1024 → length ts₀ ≡ 1024 → length ds₀ ≡ 1024 → length Ds₀ ≡ 1024 → (a.refusal ≡ 0 → ⊥) → LineWritten a.refusal a.place out₀ out k → OutputPut bs out₀ out k
-  read_refused_put l₁ l₂ l₃ l₄ n line = refusal_put n (read_refused w r l₁ l₂ l₃ l₄ n) line
-
-  module _ {b : TableAnswer} {entries₀ entries : List ℤ} (long : length entries₀ ≡ 4096) (e : a.refusal ≡ 0) (t : TableAnswered (graph_of a.events (take a.rules ss) (take a.rules ts) (take a.rules ds) (take a.rules Ds)) entries₀ b entries) where
+module _ {bs : List ℕ} {a : Reading} {ss₀ ts₀ : List ℕ} {ds₀ Ds₀ : List ℤ} {ss ts : List ℕ} {ds Ds : List ℤ} (w : RulesWritten bs (reading_numbers (Ok a)) ss₀ ts₀ ds₀ Ds₀ ss ts ds Ds) (r : ReadOff bs (ShortForRules ss₀ ts₀ ds₀ Ds₀) (reading_numbers (Ok a))) where
+  module _ (x : Result Unit Refusal) {entries₀ entries : List ℤ} (long : length entries₀ ≡ 4096) (t : TableAnswered (graph_of a.events (take a.rules ss) (take a.rules ts) (take a.rules ds) (take a.rules Ds)) entries₀ x entries) where
     -- the table is refused as the graph is alone
-    pub read_alone : GraphVerdict (graph_of a.events (take a.rules ss) (take a.rules ts) (take a.rules ds) (take a.rules Ds)) b.refusal b.place
+    read_alone : GraphVerdict (graph_of a.events (take a.rules ss) (take a.rules ts) (take a.rules ds) (take a.rules Ds)) (number_in x) (place_in x)
     read_alone =
-        let h = handed w r e in
+        let h = handed w r refl in
         let none = subst (λ (g : Graph). NoneApplies (count_checks 64 1024 g)) (sym h.graph) (text_counts h.rs (omega (arith, h.few, h.event_count)) h.few_rules) in
-        table_alone {table₀ = entries₀} (record { none = none; room = omega (arith, h.few) }) b.refusal b.place t.verdict
+        table_alone {table₀ = entries₀} (record { none = none; room = omega (arith, h.few) }) (number_in x) (place_in x) t.verdict
 
-    alone : GraphVerdict (graph_of_rules (handed w r e).rs) b.refusal b.place
-    alone = subst (λ (g : Graph). GraphVerdict g b.refusal b.place) (handed w r e).graph read_alone
+    pub table_verdict : PairsVerdict bs (number_in x) (place_in x)
+    table_verdict =
+        let h = handed w r refl in
+        accepted_on r.verdict refl (h.rs, h.text, subst (λ (g : Graph). GraphVerdict g (number_in x) (place_in x)) h.graph read_alone)
 
-    answered : TableAnswered (graph_of_rules (handed w r e).rs) entries₀ b entries
-    answered = subst (λ (g : Graph). TableAnswered g entries₀ b entries) (handed w r e).graph t
+  pub tabled : {entries₀ entries : List ℤ} → length entries₀ ≡ 4096 → TableAnswered (graph_of a.events (take a.rules ss) (take a.rules ts) (take a.rules ds) (take a.rules Ds)) entries₀ (Ok tt) entries → Tabled bs entries a.events
+  tabled {entries₀} {entries} long t =
+      let h = handed w r refl in
+      let answered : TableAnswered (graph_of_rules h.rs) entries₀ (Ok tt) entries = subst (λ (g : Graph). TableAnswered g entries₀ (Ok tt) entries) h.graph t in
+      record {
+        rs = h.rs;
+        text = h.text;
+        event_count = h.event_count;
+        few = h.few;
+        long = (answered.others refl).same_length ∙ long;
+        graph = answered.graph refl;
+        filled = subst (λ (n : ℕ). RowsFilled (graph_of_rules h.rs) n entries) (sym h.event_count) (answered.filled refl);
+        verdict = table_verdict (Ok tt) long t;
+      }
 
-    verdict : PairsVerdict bs b.refusal b.place
-    verdict = accepted_on r.verdict e ((handed w r e).rs, (handed w r e).text, alone)
-
-    pub refused_put : {out₀ out : List ℕ} {k : ℕ} → (b.refusal ≡ 0 → ⊥) → LineWritten b.refusal b.place out₀ out k → OutputPut bs out₀ out k
-    refused_put n line = refusal_put n verdict line
-
-    pub table_put : {out₀ out : List ℕ} {k : ℕ} → b.refusal ≡ 0 → ((g : Graph) → g.events ≡ a.events → EventGraph 1000000 g → RowsFilled g a.events entries → TableWritten g a.events out₀ out k) → OutputPut bs out₀ out k
-    table_put z writes =
-        let h = handed w r e in
-        let same : events h.rs ≡ a.events = sym h.event_count in
-        let filled : RowsFilled (graph_of_rules h.rs) a.events entries = subst (λ (n : ℕ). RowsFilled (graph_of_rules h.rs) n entries) same (answered.filled z) in
-        let (lines, are-lines, written) = writes (graph_of_rules h.rs) same (answered.graph z) filled in
-        let lines_of : Lines (graph_of_rules h.rs) (pairs (events h.rs)) lines = subst (λ (n : ℕ). Lines (graph_of_rules h.rs) (pairs n) lines) h.event_count are-lines in
-        let zero-verdict : PairsVerdict bs 0 0 = subst₂ (PairsVerdict bs) z (graph_place (graph_of_rules h.rs) b.refusal b.place z alone) verdict in
-        (pair_header ++ (ending ++ lines), table h.rs lines zero-verdict h.text lines_of refl, written)
+pub table_put : {bs out₀ out : List ℕ} {entries : List ℤ} {n k : ℕ} →
+    Tabled bs entries n →
+    ((g : Graph) → g.events ≡ n → EventGraph 1000000 g → RowsFilled g n entries → TableWritten g n out₀ out k) →
+    OutputPut bs out₀ out k
+table_put t writes =
+    let (lines, are-lines, written) = writes (graph_of_rules t.rs) (sym t.event_count) t.graph t.filled in
+    let lines_of : Lines (graph_of_rules t.rs) (pairs (events t.rs)) lines = subst (λ (m : ℕ). Lines (graph_of_rules t.rs) (pairs m) lines) t.event_count are-lines in
+    (pair_header ++ (ending ++ lines), table t.rs lines t.verdict t.text lines_of refl, written)

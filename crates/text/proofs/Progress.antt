@@ -8,23 +8,24 @@
 --     progress_broken      where no row follows, the text breaks
 --     header_broken        where no header stands, it breaks at row 1
 --     events_more          one rule more, and the number of events
---     header_room, header_found, header_missing     what `header_stands` gives
---     RowsCounted, counted_none, counted_small, row_longer, counted_more, counted_broken    the same with the counts that `scan` keeps
+--     header_room, header_found     what `header_stands` gives
+--     RowsCounted, counted_none, counted_more, counted_broken    the same with the counts that `scan` keeps
 --     scanned_right, scanned_broken    what `scan` gives
 -- Assumes nothing.
+use Rattle.std.proofs.Common.{Ok, Err}
 use mathlib.Core.Path.{◌≡◌, refl, sym, ap, subst, ◌∙◌}
 use mathlib.Core.Logic.{inl, inr}
-use mathlib.Core.Bool.{Bool, true, false, true≢false}
+use mathlib.Core.Bool.{Bool, true, false}
 use mathlib.Core.List.{List, [], ◌∷◌, ◌++◌, append_assoc, append-nil}
 use Prim.Native.Nat.{ℕ, suc, max, ◌+◌, ◌≤◌, ◌<◌}
 use native.Mathlib.Omega.{arith}
 use lib.ListN.{length, drop, length-append, length-drop}
 use lib.Seq.{drop-drop, drop_at}
 use Rattle.text.specs.Grammar.{Rule, Row, header, Rows, none, Text, Ended, start, ended, Broken}
-use Rattle.text.specs.Reading.{events}
-use Rattle.text.specs.Parts.Scanning.{Ends, rule_of, RowAt, Scanned}
+use Rattle.text.specs.Reading.{events, reading_numbers}
+use Rattle.text.specs.Parts.Scanning.{Ends, rule_of, RowStanding, NoRow, Scanned}
 use Rattle.text.specs.Parts.Header.{HeaderFound}
-use Rattle.text.specs.declared.Reading.{Reading}
+use Rattle.refusals.specs.declared.Refusal.TheVariants.{BrokenRow}
 use Rattle.text.specs.declared.rows.RuleRow.{RuleRow}
 use Rattle.text.proofs.Texts.{no_bytes, After, nothing, rows, text_made, rows_made}
 
@@ -137,15 +138,6 @@ header_found {bs} e right wrong =
       missing = λ f rest e' ends. wrong f (subst Ends (sym (ap (drop 24) e' ∙ drop_at header rest 24 refl)) ends);
     }
 
-pub header_missing : {bs : List ℕ} → ((rest : List ℕ) → bs ≡ header ++ rest → ⊥) → HeaderFound bs false
-header_missing lacking =
-    record {
-      room = λ e. absurd (true≢false (sym e));
-      stands = λ e. absurd (true≢false (sym e));
-      ends = λ e. absurd (true≢false (sym e));
-      missing = λ _ rest e ends. lacking rest e;
-    }
-
 -- ---- with the counts
 
 pub record RowsCounted (bs : List ℕ) (at n m : ℕ) : Type 0 where
@@ -157,39 +149,27 @@ pub record RowsCounted (bs : List ℕ) (at n m : ℕ) : Type 0 where
 pub counted_none : {bs : List ℕ} {found : Bool} → HeaderFound bs found → found ≡ true → RowsCounted bs 24 0 1
 counted_none h e = record { rs = []; progress = progress_none (h.room e) (h.stands e) (h.ends e); rule_count = refl; event_count = refl }
 
-pub counted_small : {bs : List ℕ} {at n m : ℕ} → RowsCounted bs at n m → (at ≤ length bs) × (n ≤ length bs)
-counted_small c = (c.progress.within, omega (arith, c.progress.within, c.progress.fewer, c.rule_count))
-
-module _ {bs : List ℕ} {at n m : ℕ} (c : RowsCounted bs at n m) (room : at + 2 < length bs) {a : RuleRow} (found : RowAt bs (at + 2) a) where
-  pub row_longer : a.right ≡ true → at < a.next
-  row_longer e = omega (arith, (found.right e).4)
-
-  pub counted_more : a.right ≡ true → {k : ℕ} → k ≡ max (suc a.source) (max (suc a.target) m) → RowsCounted bs a.next (n + 1) k
-  counted_more e f =
-      let (line, row, bytes, ends, later) = found.right e in
+module _ {bs : List ℕ} {at n m : ℕ} (c : RowsCounted bs at n m) (room : at + 2 < length bs) where
+  pub counted_more : {a : RuleRow} → RowStanding bs (at + 2) a → {k : ℕ} → k ≡ max (suc a.source) (max (suc a.target) m) → RowsCounted bs a.next (n + 1) k
+  counted_more {a} found f =
       record {
         rs = c.rs ++ (rule_of a ∷ []);
-        progress = progress_more c.progress room found.within row bytes ends (omega arith);
+        progress = progress_more c.progress room found.within found.row found.bytes found.ends (omega (arith, found.later));
         rule_count = omega (arith, one_more c.rs (rule_of a), c.rule_count);
         event_count = f ∙ ap (λ (x : ℕ). max (suc a.source) (max (suc a.target) x)) c.event_count ∙ sym (events_more c.rs (rule_of a));
       }
 
-  pub counted_broken : a.right ≡ false → Broken bs (n + 2)
-  counted_broken e =
+  pub counted_broken : NoRow bs (at + 2) → Broken bs (n + 2)
+  counted_broken lacking =
       let place : suc (suc (length c.rs)) ≡ n + 2 = omega (arith, c.rule_count) in
-      subst (Broken bs) place (progress_broken c.progress room (found.wrong e))
+      subst (Broken bs) place (progress_broken c.progress room lacking.none)
 
 -- ---- the whole
 
-pub scanned_broken : {bs : List ℕ} {k : ℕ} {a : Reading} → Broken bs k → (a.refusal ≡ 8) × (a.place ≡ k) × (a.events ≡ 0) × (a.rules ≡ 0) → Scanned bs a
-scanned_broken {bs} b (e, f, g, h) =
-    record {
-      right = λ z. absurd (omega (arith, e, z));
-      right_place = λ z. absurd (omega (arith, e, z));
-      wrong = λ _. (e, subst (Broken bs) (sym f) b, g, h);
-    }
+pub scanned_broken : {bs : List ℕ} {k : ℕ} → Broken bs k → Scanned bs (reading_numbers (Err (BrokenRow k)))
+scanned_broken b = record { right = λ z. absurd (let none : ⊥ = omega arith in none); right_place = λ z. absurd (let none : ⊥ = omega arith in none); wrong = λ _. (refl, b, refl, refl) }
 
-pub scanned_right : {bs : List ℕ} {at n m : ℕ} → RowsCounted bs at n m → length bs ≤ at + 2 → Scanned bs (record { refusal = 0; place = 0; events = m; rules = n })
+pub scanned_right : {bs : List ℕ} {at n m : ℕ} → RowsCounted bs at n m → length bs ≤ at + 2 → Scanned bs (reading_numbers (Ok (record { events = m; rules = n })))
 scanned_right c few =
     record {
       right = λ _. (c.rs, progress_done c.progress few, c.event_count, c.rule_count);

@@ -1,5 +1,6 @@
 -- What a row is.
 --     comma_stops, end_stops     a comma stops the digits, and so does the end
+--     delay_back          a delay is read back from its bits
 --     row_unique          a line is the row of one rule
 --     row_some            a row has a byte
 --     row_without_cr, header_without_cr     no byte of a row, or of the header, is CR
@@ -10,10 +11,13 @@ use Prim.Native.Nat.{ℕ, ◌≤◌}
 use native.Mathlib.Omega.{arith}
 use lib.IntN.{ℤ}
 use lib.ListN.{length, length-append}
+use mir.Syntax.{w64}
+use mir.Val.{to_z, of_z}
+use Rattle.std.proofs.lemmas.Int.{ints}
 use Rattle.numerals.specs.Numbers.{Number, Field, plain, minus}
 use Rattle.numerals.specs.Fields.{Stops}
 use Rattle.numerals.proofs.Cutting.{more, Without, each_map, each_append, without}
-use Rattle.numerals.proofs.Cuts.{digits_each, number_cut, field_cut}
+use Rattle.numerals.proofs.Cuts.{digits_each, number_cut, field_cut, number_below}
 use Rattle.text.specs.Grammar.{Rule, Row, header}
 
 pub comma_stops : (r : List ℕ) → Stops (44 ∷ r)
@@ -23,6 +27,11 @@ pub end_stops : Stops []
 end_stops b after e d = nil≢cons e
 
 -- ---- rows
+
+-- a delay is read back from its bits
+pub delay_back : {field : List ℕ} {z : ℤ} → Field field z → to_z w64 (of_z w64 z) ≡ z
+delay_back (plain h) = let l = number_below h in omega (arith, ints)
+delay_back (minus h) = let l = number_below h in omega (arith, ints)
 
 pub row_unique : {l : List ℕ} {r s : Rule} → Row l r → Row l s → r ≡ s
 row_unique h k =

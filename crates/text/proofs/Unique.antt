@@ -6,8 +6,9 @@
 --     reading_unique        two readings of one text are equal
 --     reading_exactly       a refusal is given exactly when its rule says: whatever number and place the verdict allows, the reading has them
 --     SameLists, written_unique  what two runs leave in the four lists
---     read_unique           all of it: two results of `read_rules` are equal
+--     read_unique, read_result_unique    all of it: two results of `read_rules` are equal
 -- Assumes nothing.
+use Rattle.std.proofs.Common.{Result, Ok, Err}
 use mathlib.Core.Path.{◌≡◌, sym, ap, subst, ◌∙◌}
 use mathlib.Core.List.{List}
 use Prim.Native.Nat.{ℕ, ◌≤◌}
@@ -17,9 +18,11 @@ use lib.IntN.{ℤ}
 use lib.ListN.{length}
 use Rattle.verdicts.specs.Verdict.{given, passed, Accepted}
 use Rattle.verdicts.proofs.Verdicts.{OnePlaces, OneVerdict, at_zero, at_zero_unique, misses_at_zero, accepted_unique, then_unique}
+use Rattle.refusals.specs.declared.Refusal.{Refusal}
+use Rattle.refusals.proofs.Unique.{some_number, same_refusal}
 use Rattle.text.specs.declared.Reading.{Reading}
 use Rattle.text.specs.Grammar.{Rule, Broken}
-use Rattle.text.specs.Reading.{ManyEvents, OfText, text_checks, TextVerdict, ReadOff, RulesWritten, events}
+use Rattle.text.specs.Reading.{ManyEvents, OfText, text_checks, TextVerdict, ReadingNumbers, reading_numbers, ReadOff, RulesWritten, events}
 use Rattle.text.proofs.Texts.{text_unique, text_not_broken, broken_unique}
 
 -- ---- the reading
@@ -39,14 +42,14 @@ pub verdict_unique : {bs : List ℕ} {Short : List Rule → Type 0} {Rest : ℕ 
     {i p j q : ℕ} → TextVerdict bs Short Rest i p → TextVerdict bs Short Rest j q → (i ≡ j) × (p ≡ q)
 verdict_unique {bs} {Short} {Rest} rest {i} {p} {j} {q} v w = then_unique (text_checks bs Short) {Rest = Rest} (text_places bs Short) rest i p j q v w
 
-pub reading_exactly : {bs : List ℕ} {Short : List Rule → Type 0} {a : Reading} → ReadOff bs Short a → {j p : ℕ} → TextVerdict bs Short Accepted j p → (a.refusal ≡ j) × (a.place ≡ p)
+pub reading_exactly : {bs : List ℕ} {Short : List Rule → Type 0} {a : ReadingNumbers} → ReadOff bs Short a → {j p : ℕ} → TextVerdict bs Short Accepted j p → (a.refusal ≡ j) × (a.place ≡ p)
 reading_exactly x v = verdict_unique accepted_unique x.verdict v
 
 -- a reading is its four numbers
-same_reading : {a b : Reading} → a.refusal ≡ b.refusal → a.place ≡ b.place → a.events ≡ b.events → a.rules ≡ b.rules → a ≡ b
+same_reading : {a b : ReadingNumbers} → a.refusal ≡ b.refusal → a.place ≡ b.place → a.events ≡ b.events → a.rules ≡ b.rules → a ≡ b
 same_reading e f h k = λ i. record { refusal = e i; place = f i; events = h i; rules = k i }
 
-pub reading_unique : {bs : List ℕ} {Short : List Rule → Type 0} {a b : Reading} → ReadOff bs Short a → ReadOff bs Short b → a ≡ b
+pub reading_unique : {bs : List ℕ} {Short : List Rule → Type 0} {a b : ReadingNumbers} → ReadOff bs Short a → ReadOff bs Short b → a ≡ b
 reading_unique {a = a} {b} x y = go (ℕ_discrete a.refusal 0)
   where
     same : (a.refusal ≡ b.refusal) × (a.place ≡ b.place)
@@ -70,7 +73,7 @@ pub record SameLists (ss ss' ts ts' : List ℕ) (ds ds' Ds Ds' : List ℤ) : Typ
   pub leasts : ds ≡ ds'
   pub mosts : Ds ≡ Ds'
 
-pub written_unique : {bs : List ℕ} {Short : List Rule → Type 0} {a : Reading} {ss₀ ts₀ : List ℕ} {ds₀ Ds₀ : List ℤ} {ss ss' ts ts' : List ℕ} {ds ds' Ds Ds' : List ℤ}
+pub written_unique : {bs : List ℕ} {Short : List Rule → Type 0} {a : ReadingNumbers} {ss₀ ts₀ : List ℕ} {ds₀ Ds₀ : List ℤ} {ss ss' ts ts' : List ℕ} {ds ds' Ds Ds' : List ℤ}
     → ReadOff bs Short a
     → RulesWritten bs a ss₀ ts₀ ds₀ Ds₀ ss ts ds Ds → RulesWritten bs a ss₀ ts₀ ds₀ Ds₀ ss' ts' ds' Ds'
     → SameLists ss ss' ts ts' ds ds' Ds Ds'
@@ -92,11 +95,28 @@ written_unique {a = a} {ss = ss} {ss'} {ts} {ts'} {ds} {ds'} {Ds} {Ds'} x w w' =
         let h' = w'.kept n in
         record { sources = h.0 ∙ sym h'.0; targets = h.1 ∙ sym h'.1; leasts = h.2 ∙ sym h'.2; mosts = h.3 ∙ sym h'.3 }
 
-pub read_unique : {bs : List ℕ} {Short : List Rule → Type 0} {a b : Reading} {ss₀ ts₀ : List ℕ} {ds₀ Ds₀ : List ℤ} {ss ss' ts ts' : List ℕ} {ds ds' Ds Ds' : List ℤ}
+pub read_unique : {bs : List ℕ} {Short : List Rule → Type 0} {a b : ReadingNumbers} {ss₀ ts₀ : List ℕ} {ds₀ Ds₀ : List ℤ} {ss ss' ts ts' : List ℕ} {ds ds' Ds Ds' : List ℤ}
     → ReadOff bs Short a → RulesWritten bs a ss₀ ts₀ ds₀ Ds₀ ss ts ds Ds
     → ReadOff bs Short b → RulesWritten bs b ss₀ ts₀ ds₀ Ds₀ ss' ts' ds' Ds'
     → (a ≡ b) × (SameLists ss ss' ts ts' ds ds' Ds Ds')
 read_unique {bs} {ss₀ = ss₀} {ts₀} {ds₀} {Ds₀} {ss' = ss'} {ts' = ts'} {ds' = ds'} {Ds' = Ds'} pa wa pb wb =
     let same = reading_unique pa pb in
-    let w = subst (λ (x : Reading). RulesWritten bs x ss₀ ts₀ ds₀ Ds₀ ss' ts' ds' Ds') (sym same) wb in
+    let w = subst (λ (x : ReadingNumbers). RulesWritten bs x ss₀ ts₀ ds₀ Ds₀ ss' ts' ds' Ds') (sym same) wb in
     (same, written_unique pa wa w)
+
+-- ---- results
+
+reading_told : (x y : Result Reading Refusal) → reading_numbers x ≡ reading_numbers y → x ≡ y
+reading_told (Ok a) (Ok b) e = ap Ok (λ i. record { events = (e i).events; rules = (e i).rules })
+reading_told (Ok a) (Err r) e = absurd (some_number r (λ i. (sym e i).refusal))
+reading_told (Err r) (Ok b) e = absurd (some_number r (λ i. (e i).refusal))
+reading_told (Err r) (Err q) e = ap Err (same_refusal r q (λ i. (e i).refusal) (λ i. (e i).place))
+
+-- two results of `read_rules` for one text and one set of lent lists are equal, lists included
+pub read_result_unique : {bs : List ℕ} {Short : List Rule → Type 0} (x y : Result Reading Refusal) {ss₀ ts₀ : List ℕ} {ds₀ Ds₀ : List ℤ} {ss ss' ts ts' : List ℕ} {ds ds' Ds Ds' : List ℤ} →
+    ReadOff bs Short (reading_numbers x) → RulesWritten bs (reading_numbers x) ss₀ ts₀ ds₀ Ds₀ ss ts ds Ds →
+    ReadOff bs Short (reading_numbers y) → RulesWritten bs (reading_numbers y) ss₀ ts₀ ds₀ Ds₀ ss' ts' ds' Ds' →
+    (x ≡ y) × SameLists ss ss' ts ts' ds ds' Ds Ds'
+read_result_unique x y ra wa rb wb =
+    let (same, lists) = read_unique ra wa rb wb in
+    (reading_told x y same, lists)

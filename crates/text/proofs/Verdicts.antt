@@ -6,7 +6,8 @@
 --     read_right           none of these
 --     lists_refused, lists_written     what the four lists hold after
 -- Assumes nothing.
-use mathlib.Core.Path.{◌≡◌, refl, sym, subst, subst₂, ◌∙◌}
+use Rattle.std.proofs.Common.{Ok, Err}
+use mathlib.Core.Path.{◌≡◌, refl, sym, subst}
 use mathlib.Core.Logic.{◌⊎◌}
 use mathlib.Core.List.{List, [], ◌∷◌}
 use Prim.Native.Nat.{ℕ, ◌≤◌, ◌<◌}
@@ -16,9 +17,13 @@ use lib.ListN.{length}
 use Rattle.verdicts.specs.Verdict.{check, given, passed, Accepted, FirstOf, AtZero}
 use Rattle.verdicts.proofs.Verdicts.{Alike, none_alike, more_alike, then_alike}
 use Rattle.graphs.proofs.Refusals.{short_at}
+use Rattle.refusals.specs.declared.Refusal.{Refusal}
+use Rattle.refusals.specs.declared.Refusal.TheVariants.{BytesOutside}
+use Rattle.refusals.specs.Numbers.{number_of, place_of}
+use Rattle.refusals.proofs.Unique.{some_number}
 use Rattle.text.specs.declared.Reading.{Reading}
 use Rattle.text.specs.Grammar.{Rule, Text, Broken}
-use Rattle.text.specs.Reading.{events, ShortForRules, ManyEvents, ManyRows, OfText, TextVerdict, ReadOff, ListsHold, RulesWritten}
+use Rattle.text.specs.Reading.{events, ShortForRules, ManyEvents, ManyRows, OfText, TextVerdict, reading_numbers, ReadOff, ListsHold, RulesWritten}
 use Rattle.text.specs.Parts.Scanning.{reading_checks, Scanned}
 use Rattle.text.proofs.Texts.{text_unique, text_not_broken}
 use Rattle.text.proofs.Unique.{broken_first}
@@ -26,43 +31,33 @@ use Rattle.text.proofs.Counts.{counts_right}
 
 -- ---- the reading
 
-pub read_refused : {bs : List ℕ} {Short : List Rule → Type 0} {a : Reading} {k p : ℕ} →
-    1 ≤ k →
-    TextVerdict bs Short Accepted k p →
-    (a.refusal ≡ k) × (a.place ≡ p) × (a.events ≡ 0) × (a.rules ≡ 0) →
-    ReadOff bs Short a
-read_refused {bs} {Short} some v (e, f, g, h) =
-    record {
-      verdict = subst₂ (TextVerdict bs Short Accepted) (sym e) (sym f) v;
-      found = λ z. absurd (omega (arith, e, z, some));
-      no_events = λ _. g;
-      no_rules = λ _. h;
-    }
+pub read_refused : {bs : List ℕ} {Short : List Rule → Type 0} (r : Refusal) → TextVerdict bs Short Accepted (number_of r) (place_of r) → ReadOff bs Short (reading_numbers (Err r))
+read_refused r v = record { verdict = v; found = λ z. absurd (some_number r z); no_events = λ _. refl; no_rules = λ _. refl }
 
-pub read_long : {bs : List ℕ} {Short : List Rule → Type 0} {a : Reading} → 32768 < length bs → (a.refusal ≡ 1) × (a.place ≡ 0) × (a.events ≡ 0) × (a.rules ≡ 0) → ReadOff bs Short a
-read_long long z = read_refused (omega arith) (given (record { zero_place = refl; holds = long })) z
+pub read_long : {bs : List ℕ} {Short : List Rule → Type 0} → 32768 < length bs → ReadOff bs Short (reading_numbers (Err BytesOutside))
+read_long long = read_refused BytesOutside (given (record { zero_place = refl; holds = long }))
 
 module _ (bs : List ℕ) (few : length bs ≤ 32768) where
   not_long : (q : ℕ) → AtZero (32768 < length bs) q → ⊥
   not_long q z = omega (arith, z.holds)
 
-  pub read_broken : {Short : List Rule → Type 0} {a : Reading} → Scanned bs a → (a.refusal ≡ 0 → ⊥) → ReadOff bs Short a
-  read_broken s refused =
-      let (e, broken, g, h) = s.wrong refused in
-      read_refused (omega arith) (broken_first few broken) (e, refl, g, h)
+  pub read_broken : {Short : List Rule → Type 0} (r : Refusal) → Scanned bs (reading_numbers (Err r)) → ReadOff bs Short (reading_numbers (Err r))
+  read_broken {Short} r s =
+      let (e, broken, _, _) = s.wrong (some_number r) in
+      read_refused r (subst (λ (k : ℕ). TextVerdict bs Short Accepted k (place_of r)) (sym e) (broken_first few broken))
 
-  module _ {a : Reading} (s : Scanned bs a) (right : a.refusal ≡ 0) where
+  module _ {a : Reading} (s : Scanned bs (reading_numbers (Ok a))) where
     abbrev the_rules : List Rule
-    the_rules = (s.right right).0
+    the_rules = (s.right refl).0
 
     text : Text bs the_rules
-    text = (s.right right).1
+    text = (s.right refl).1
 
     event_count : a.events ≡ events the_rules
-    event_count = (s.right right).2
+    event_count = (s.right refl).2
 
     rule_count : a.rules ≡ length the_rules
-    rule_count = (s.right right).3
+    rule_count = (s.right refl).3
 
     not_broken : (q : ℕ) → Broken bs q → ⊥
     not_broken q b = text_not_broken text b
@@ -92,34 +87,27 @@ module _ (bs : List ℕ) (few : length bs ≤ 32768) where
           ShortOf : ℕ → Type 0
           ShortOf m = (length ss < m) ⊎ ((length ts < m) ⊎ ((length ds < m) ⊎ (length Ds < m)))
 
-      counted : {k : ℕ} → FirstOf (reading_checks a.events a.rules (length ss) (length ts) (length ds) (length Ds)) k 0 → TextVerdict bs (ShortForRules ss ts ds Ds) Accepted k 0
-      counted {k} v = passed not_long (passed not_broken (then_alike counts_alike Accepted k 0 v))
+      counted : {k p : ℕ} → FirstOf (reading_checks a.events a.rules (length ss) (length ts) (length ds) (length Ds)) k p → TextVerdict bs (ShortForRules ss ts ds Ds) Accepted k p
+      counted {k} {p} v = passed not_long (passed not_broken (then_alike counts_alike Accepted k p v))
 
-      pub read_counted : {b : Reading} {k : ℕ} → (k ≡ 0 → ⊥) → FirstOf (reading_checks a.events a.rules (length ss) (length ts) (length ds) (length Ds)) k 0 →
-          (b.refusal ≡ k) × (b.place ≡ 0) × (b.events ≡ 0) × (b.rules ≡ 0) → ReadOff bs (ShortForRules ss ts ds Ds) b
-      read_counted some v z = read_refused (omega arith) (counted v) z
+      pub read_counted : (r : Refusal) → FirstOf (reading_checks a.events a.rules (length ss) (length ts) (length ds) (length Ds)) (number_of r) (place_of r) → ReadOff bs (ShortForRules ss ts ds Ds) (reading_numbers (Err r))
+      read_counted r v = read_refused r (counted v)
 
-      module _ {k : ℕ} (zero : k ≡ 0) (v : FirstOf (reading_checks a.events a.rules (length ss) (length ts) (length ds) (length Ds)) k 0) where
-        pub read_right : ReadOff bs (ShortForRules ss ts ds Ds) a
-        read_right =
-            record {
-              verdict = subst₂ (TextVerdict bs (ShortForRules ss ts ds Ds) Accepted) (zero ∙ sym right) (sym (s.right_place right)) (counted v);
-              found = s.right;
-              no_events = λ n. absurd (n right);
-              no_rules = λ n. absurd (n right);
-            }
+      module _ (v : FirstOf (reading_checks a.events a.rules (length ss) (length ts) (length ds) (length Ds)) 0 0) where
+        pub read_right : ReadOff bs (ShortForRules ss ts ds Ds) (reading_numbers (Ok a))
+        read_right = record { verdict = counted v; found = s.right; no_events = λ n. absurd (n refl); no_rules = λ n. absurd (n refl) }
 
         -- what `write_rules` asks for
         pub room : (rs : List Rule) × Text bs rs × (length rs ≤ length ss) × (length rs ≤ length ts) × (length rs ≤ length ds) × (length rs ≤ length Ds)
         room =
-            let kept = counts_right zero v in
+            let kept = counts_right refl v in
             (the_rules, text, omega (arith, rule_count, kept.sources_long), omega (arith, rule_count, kept.targets_long), omega (arith, rule_count, kept.leasts_long), omega (arith, rule_count, kept.mosts_long))
 
 -- ---- the lists
 
-module _ {bs : List ℕ} {a : Reading} {ss₀ ts₀ : List ℕ} {ds₀ Ds₀ : List ℤ} where
-  pub lists_refused : (a.refusal ≡ 0 → ⊥) → RulesWritten bs a ss₀ ts₀ ds₀ Ds₀ ss₀ ts₀ ds₀ Ds₀
-  lists_refused refused = record { written = λ e. absurd (refused e); kept = λ _. (refl, refl, refl, refl) }
+module _ {bs : List ℕ} {ss₀ ts₀ : List ℕ} {ds₀ Ds₀ : List ℤ} where
+  pub lists_refused : (r : Refusal) → RulesWritten bs (reading_numbers (Err r)) ss₀ ts₀ ds₀ Ds₀ ss₀ ts₀ ds₀ Ds₀
+  lists_refused r = record { written = λ e. absurd (some_number r e); kept = λ _. (refl, refl, refl, refl) }
 
-  pub lists_written : {ss ts : List ℕ} {ds Ds : List ℤ} → a.refusal ≡ 0 → ((rs : List Rule) → Text bs rs → ListsHold rs ss₀ ts₀ ds₀ Ds₀ ss ts ds Ds) → RulesWritten bs a ss₀ ts₀ ds₀ Ds₀ ss ts ds Ds
-  lists_written right h = record { written = λ _. h; kept = λ n. absurd (n right) }
+  pub lists_written : (a : Reading) {ss ts : List ℕ} {ds Ds : List ℤ} → ((rs : List Rule) → Text bs rs → ListsHold rs ss₀ ts₀ ds₀ Ds₀ ss ts ds Ds) → RulesWritten bs (reading_numbers (Ok a)) ss₀ ts₀ ds₀ Ds₀ ss ts ds Ds
+  lists_written a h = record { written = λ _. h; kept = λ n. absurd (n refl) }

@@ -1,9 +1,10 @@
 -- A row, read part by part.
---     Parts1 to Parts4    the four parts, the three, the two and the one that is left
---     row_parts           a row and its end are four parts
---     no_row              where they are not four parts, no row stands
---     after_event, after_delay      past a part that was found, the rest of the parts follow
---     row_found           four parts found one after the other are a row
+--     Parts1 to Parts7              the four fields with commas between and the end, and what is left of them after each part
+--     row_needs                     a row needs all parts
+--     needs_number, needs_delay     past a field that stands there, the rest is needed
+--     needs_2 to needs_7, needs_end      so it goes, part after part
+--     no_number, no_delay, no_comma, no_end      where a part that is needed is missing, no row stands
+--     row_found                     four fields with commas between, and the end after them, are a row
 -- Assumes nothing.
 use mathlib.Core.Path.{◌≡◌, refl, sym, ◌∙◌, ap, subst}
 use mathlib.Core.Bool.{Bool, true, false}
@@ -12,110 +13,179 @@ use Prim.Native.Nat.{ℕ, ◌≤◌, ◌<◌}
 use native.Mathlib.Omega.{arith}
 use lib.IntN.{ℤ}
 use lib.ListN.{length, drop, length-append, length-drop}
+use mir.Syntax.{w64}
+use mir.Val.{to_z, of_z}
 use Rattle.numerals.specs.Numbers.{Number, Field}
-use Rattle.text.specs.Grammar.{Rule, Row}
-use Rattle.text.specs.Parts.Scanning.{Ends, RowAt}
-use Rattle.text.specs.Parts.Fields.{PartAt, Comma, Closing}
-use Rattle.text.specs.declared.rows.RuleRow.{RuleRow}
+use Rattle.numerals.specs.Fields.{Standing, NoField}
+use Rattle.numerals.specs.declared.Parsed.{Parsed}
 use Rattle.numerals.proofs.Cuts.{number_cut, field_cut, number_below}
-use Rattle.text.proofs.RowLaws.{row_some}
-use Rattle.numerals.proofs.Taking.{never}
-use Rattle.text.proofs.PartLaws.{Part, part_next, comma_mark, comma_one}
+use Rattle.text.specs.Grammar.{Rule, Row}
+use Rattle.text.specs.Parts.Scanning.{Ends, RowStanding, NoRow}
+use Rattle.text.specs.Parts.Fields.{EndAt, Comma, NoComma}
+use Rattle.text.proofs.RowLaws.{comma_stops, delay_back, row_some}
+use Rattle.text.proofs.PartLaws.{ends_stop, FieldThen, CommaThen, Needs, needs_field, needs_comma}
+
+abbrev pub Parts7 : List ℕ → Type 0
+Parts7 = FieldThen Field Ends
+
+abbrev pub Parts6 : List ℕ → Type 0
+Parts6 = CommaThen Parts7
+
+abbrev pub Parts5 : List ℕ → Type 0
+Parts5 = FieldThen Field Parts6
 
 abbrev pub Parts4 : List ℕ → Type 0
-Parts4 = Part Field Closing (λ (l : List ℕ). Unit {0})
+Parts4 = CommaThen Parts5
 
 abbrev pub Parts3 : List ℕ → Type 0
-Parts3 = Part Field Comma Parts4
+Parts3 = FieldThen Number Parts4
 
 abbrev pub Parts2 : List ℕ → Type 0
-Parts2 = Part Number Comma Parts3
+Parts2 = CommaThen Parts3
 
 abbrev pub Parts1 : List ℕ → Type 0
-Parts1 = Part Number Comma Parts2
+Parts1 = FieldThen Number Parts2
 
-pub row_parts : {line : List ℕ} {r : Rule} (rest : List ℕ) → Row line r → Ends rest → Parts1 (line ++ rest)
+row_parts : {line : List ℕ} {r : Rule} (rest : List ℕ) → Row line r → Ends rest → Parts1 (line ++ rest)
 row_parts {line} {r} rest h ends =
     record {
       field = h.source_field;
       after = _;
-      rest = _;
       says = r.source;
       bytes = ap (λ (l : List ℕ). l ++ rest) h.bytes ∙ append_assoc h.source_field _ rest;
       is = h.source_number;
-      mark = refl;
-      next = record {
-        field = h.target_field;
-        after = _;
+      stops = comma_stops _;
+      then = record {
         rest = _;
-        says = r.target;
-        bytes = append_assoc h.target_field _ rest;
-        is = h.target_number;
-        mark = refl;
-        next = record {
-          field = h.least_field;
+        bytes = refl;
+        then = record {
+          field = h.target_field;
           after = _;
-          rest = _;
-          says = r.least;
-          bytes = append_assoc h.least_field _ rest;
-          is = h.least_delay;
-          mark = refl;
-          next = record { field = h.most_field; after = rest; rest = rest; says = r.most; bytes = refl; is = h.most_delay; mark = (refl, ends); next = tt };
+          says = r.target;
+          bytes = append_assoc h.target_field _ rest;
+          is = h.target_number;
+          stops = comma_stops _;
+          then = record {
+            rest = _;
+            bytes = refl;
+            then = record {
+              field = h.least_field;
+              after = _;
+              says = r.least;
+              bytes = append_assoc h.least_field _ rest;
+              is = h.least_delay;
+              stops = comma_stops _;
+              then = record {
+                rest = _;
+                bytes = refl;
+                then = record { field = h.most_field; after = rest; says = r.most; bytes = refl; is = h.most_delay; stops = ends_stop rest ends; then = ends };
+              };
+            };
+          };
         };
       };
     }
 
-pub no_row : {bs : List ℕ} {at : ℕ} {a : RuleRow} → (Parts1 (drop at bs) → ⊥) → at ≤ length bs → (a.right ≡ false) × (a.source ≡ 0) × (a.target ≡ 0) × (a.next ≡ at) → RowAt bs at a
-no_row n l (r, s, t, e) =
-    record {
-      within = omega arith;
-      right = λ k. never k r;
-      wrong = λ _ line rest rule q ends row. n (subst Parts1 (sym q) (row_parts rest row ends));
-      source_seven = omega arith;
-      target_seven = omega arith;
-    }
+pub row_needs : (bs : List ℕ) (at : ℕ) → Needs bs at Parts1 at
+row_needs bs at = record { lacking = λ no. record { none = λ line rest r e ends row. no (subst Parts1 (sym e) (row_parts rest row ends)) } }
 
-pub after_event : {bs : List ℕ} {at : ℕ} {t : Bool} {x : ℕ} {end : ℕ} {Next : List ℕ → Type 0} → PartAt Number Comma bs at t x end → t ≡ true → Part Number Comma Next (drop at bs) → Next (drop end bs)
-after_event h e p = part_next number_cut comma_mark comma_one h e p
+module _ {bs : List ℕ} {at next : ℕ} {Then : List ℕ → Type 0} where
+  pub needs_number : {a : Parsed ℕ} → Needs bs at (FieldThen Number Then) next → Standing Number bs next a → Needs bs at Then a.next
+  needs_number needs h = needs_field number_cut needs h
 
-pub after_delay : {bs : List ℕ} {at : ℕ} {t : Bool} {z : ℤ} {end : ℕ} {Next : List ℕ → Type 0} → PartAt Field Comma bs at t z end → t ≡ true → Part Field Comma Next (drop at bs) → Next (drop end bs)
-after_delay h e p = part_next field_cut comma_mark comma_one h e p
+  pub needs_delay : {a : Parsed ℤ} → Needs bs at (FieldThen Field Then) next → Standing Field bs next a → Needs bs at Then a.next
+  needs_delay needs h = needs_field field_cut needs h
+
+  pub no_number : Needs bs at (FieldThen Number Then) next → NoField Number bs next → NoRow bs at
+  no_number needs h = needs.lacking (λ p. h.none p.field p.after p.says p.bytes p.stops p.is)
+
+  pub no_delay : Needs bs at (FieldThen Field Then) next → NoField Field bs next → NoRow bs at
+  no_delay needs h = needs.lacking (λ p. h.none p.field p.after p.says p.bytes p.stops p.is)
+
+  pub no_comma : Needs bs at (CommaThen Then) next → NoComma bs next → NoRow bs at
+  no_comma needs h = needs.lacking (λ p. h.none p.rest p.bytes)
+
+pub no_end : {bs : List ℕ} {at next : ℕ} {t : Bool} → Needs bs at Ends next → EndAt bs next t → t ≡ false → NoRow bs at
+no_end needs h e = needs.lacking (h.wrong e)
+
+-- ---- what is left to need, part after part
+
+module _ {bs : List ℕ} {at : ℕ} {source : Parsed ℕ} (h₁ : Standing Number bs at source) where
+  pub needs_2 : Needs bs at Parts2 source.next
+  needs_2 = needs_number (row_needs bs at) h₁
+
+  module _ {second : ℕ} (c₁ : Comma bs source.next second) where
+    pub needs_3 : Needs bs at Parts3 second
+    needs_3 = needs_comma needs_2 c₁
+
+    module _ {target : Parsed ℕ} (h₂ : Standing Number bs second target) where
+      pub needs_4 : Needs bs at Parts4 target.next
+      needs_4 = needs_number needs_3 h₂
+
+      module _ {third : ℕ} (c₂ : Comma bs target.next third) where
+        pub needs_5 : Needs bs at Parts5 third
+        needs_5 = needs_comma needs_4 c₂
+
+        module _ {least : Parsed ℤ} (h₃ : Standing Field bs third least) where
+          pub needs_6 : Needs bs at Parts6 least.next
+          needs_6 = needs_delay needs_5 h₃
+
+          module _ {fourth : ℕ} (c₃ : Comma bs least.next fourth) where
+            pub needs_7 : Needs bs at Parts7 fourth
+            needs_7 = needs_comma needs_6 c₃
+
+            pub needs_end : {most : Parsed ℤ} → Standing Field bs fourth most → Needs bs at Ends most.next
+            needs_end h₄ = needs_delay needs_7 h₄
+
+-- ---- the row
 
 -- one part before what was found
 joined : (f m r : List ℕ) {l after rest : List ℕ} → l ≡ f ++ after → after ≡ 44 ∷ rest → rest ≡ m ++ r → l ≡ (f ++ (44 ∷ m)) ++ r
 joined f m r p q s = p ∙ (ap (λ (k : List ℕ). f ++ k) (q ∙ ap (λ (k : List ℕ). 44 ∷ k) s) ∙ sym (append_assoc f (44 ∷ m) r))
 
-past_row : (bs : List ℕ) (at next : ℕ) (line : List ℕ) → 1 ≤ length line → at ≤ length bs → next ≤ length bs → drop at bs ≡ line ++ drop next bs → at < next
-past_row bs at next line s l k e = omega (arith, ap length e, length-drop at bs, length-drop next bs, length-append line (drop next bs))
+past_row : (bs : List ℕ) (at next : ℕ) (line : List ℕ) → 1 ≤ length line → next ≤ length bs → drop at bs ≡ line ++ drop next bs → at < next
+past_row bs at next line s k e = omega (arith, ap length e, length-drop at bs, length-drop next bs, length-append line (drop next bs))
 
-pub row_found : {bs : List ℕ} {at : ℕ} {t u v w : Bool} {source target : ℕ} {least most : ℤ} {a b c d : ℕ} →
-    PartAt Number Comma bs at t source a →
+pub row_found : {bs : List ℕ} {at : ℕ} {source target : Parsed ℕ} {least most : Parsed ℤ} {second third fourth : ℕ} {t : Bool} →
+    Standing Number bs at source →
+    Comma bs source.next second →
+    Standing Number bs second target →
+    Comma bs target.next third →
+    Standing Field bs third least →
+    Comma bs least.next fourth →
+    Standing Field bs fourth most →
+    EndAt bs most.next t →
     t ≡ true →
-    PartAt Number Comma bs a u target b →
-    u ≡ true →
-    PartAt Field Comma bs b v least c →
-    v ≡ true →
-    PartAt Field Closing bs c w most d →
-    w ≡ true →
-    at ≤ length bs →
-    RowAt bs at (record { right = true; source = source; target = target; least = least; most = most; next = d })
-row_found {bs} {at} {source = source} {target = target} {least = least} {most = most} {d = d} p1 e1 p2 e2 p3 e3 p4 e4 l =
-    let (f1, s1, is1, q1, m1) = p1.right e1 in
-    let (f2, s2, is2, q2, m2) = p2.right e2 in
-    let (f3, s3, is3, q3, m3) = p3.right e3 in
-    let (f4, s4, is4, q4, (same, ends)) = p4.right e4 in
-    let last-two : List ℕ = f3 ++ (44 ∷ f4) in
-    let last-three : List ℕ = f2 ++ (44 ∷ last-two) in
-    let line : List ℕ = f1 ++ (44 ∷ last-three) in
-    let rest : List ℕ = drop d bs in
+    RowStanding
+    bs
+    at
+    (record { source = source.value; target = target.value; least = to_z w64 (of_z w64 least.value); most = to_z w64 (of_z w64 most.value); next = most.next })
+row_found {bs} {at} {source} {target} {least} {most} h₁ c₁ h₂ c₂ h₃ c₃ h₄ end right =
+    let last-two : List ℕ = h₃.field ++ (44 ∷ h₄.field) in
+    let last-three : List ℕ = h₂.field ++ (44 ∷ last-two) in
+    let line : List ℕ = h₁.field ++ (44 ∷ last-three) in
+    let rest : List ℕ = drop most.next bs in
     let bytes : drop at bs ≡ line ++ rest =
-    joined f1 last-three rest q1 m1 (joined f2 last-two rest q2 m2 (joined f3 f4 rest q3 m3 (q4 ∙ ap (λ (k : List ℕ). f4 ++ k) same))) in
-    let row : Row line (record { source = source; target = target; least = least; most = most }) =
-    record { source_field = f1; target_field = f2; least_field = f3; most_field = f4; bytes = refl; source_number = is1; target_number = is2; least_delay = is3; most_delay = is4 } in
+    joined h₁.field last-three rest h₁.bytes c₁.bytes (joined h₂.field last-two rest h₂.bytes c₂.bytes (joined h₃.field h₄.field rest h₃.bytes c₃.bytes h₄.bytes)) in
+    let row : Row line (record { source = source.value; target = target.value; least = to_z w64 (of_z w64 least.value); most = to_z w64 (of_z w64 most.value) }) =
     record {
-      within = p4.within;
-      right = λ _. (line, row, bytes, subst Ends same ends, past_row bs at d line (row_some row) l p4.within bytes);
-      wrong = never refl;
-      source_seven = number_below is1;
-      target_seven = number_below is2;
+      source_field = h₁.field;
+      target_field = h₂.field;
+      least_field = h₃.field;
+      most_field = h₄.field;
+      bytes = refl;
+      source_number = h₁.is;
+      target_number = h₂.is;
+      least_delay = rw (delay_back h₃.is) h₃.is;
+      most_delay = rw (delay_back h₄.is) h₄.is;
+    } in
+    record {
+      within = h₄.within;
+      line = line;
+      row = row;
+      bytes = bytes;
+      ends = end.right right;
+      later = past_row bs at most.next line (row_some row) h₄.within bytes;
+      source_seven = number_below h₁.is;
+      target_seven = number_below h₂.is;
     }

@@ -4,22 +4,24 @@
 --     Turn …                what a turn may count on: there is room
 --     writing_none          before the first turn
 --     turn_kept             each turn may: the text is right, so one rule more is left
---     row_later             a turn goes on
 --     writing_more          a turn writes one rule
 --     writing_done          after the last turn all rules are written
 -- ss₀, ts₀, ds₀, Ds₀ are the lists before, ss, ts, ds, Ds now. Assumes nothing.
 use mathlib.Core.Path.{◌≡◌, refl, sym, ap, subst, ◌∙◌}
-use mathlib.Core.Bool.{Bool, true, false}
 use mathlib.Core.List.{List, [], ◌∷◌, ◌++◌, map, map-append}
 use Prim.Native.Nat.{ℕ, suc, ◌+◌, ◌≤◌, ◌<◌}
 use native.Mathlib.Omega.{arith}
 use lib.IntN.{ℤ}
 use lib.ListN.{length, drop, set, get_or, length-append, length-drop, length-map}
 use lib.Seq.{drop-cons, set_at, drop_at, append_snoc}
+use mir.Syntax.{w64}
+use mir.Val.{to_z, of_z}
+use Rattle.std.specs.Prelude.{Option, Some, None, IsSome}
 use Rattle.text.specs.Grammar.{Rule, header, Text}
 use Rattle.text.specs.Reading.{ListsHold}
-use Rattle.text.specs.Parts.Scanning.{rule_of, RowAt}
+use Rattle.text.specs.Parts.Scanning.{rule_of, RowStanding, RowAt}
 use Rattle.text.specs.declared.rows.RuleRow.{RuleRow}
+use Rattle.text.proofs.RowLaws.{delay_back}
 use Rattle.text.proofs.Texts.{After, FirstRow, after_ends, after_rows, text_cut, rows_first, text_unique, text_not_broken}
 use Rattle.text.proofs.Progress.{one_more, RowsRead, header_room, progress_none, ending, progress_more, progress_done, progress_broken}
 
@@ -41,6 +43,10 @@ module _ {A B : Type 0} (f : A → B) where
       ∙ (λ i. sym (map-append f done (r ∷ [])) i ++ drop (sym (one_more done r) i) old)
 
 -- ---- the four lists
+
+-- the code stores words
+abbrev word : ℤ → ℤ
+word z = to_z w64 (of_z w64 z)
 
 pub record RulesGoing (bs : List ℕ) (ss₀ ts₀ : List ℕ) (ds₀ Ds₀ : List ℤ) (ss ts : List ℕ) (ds Ds : List ℤ) (at i : ℕ) : Type 0 where
   pub done : List Rule
@@ -99,19 +105,18 @@ module _ {bs : List ℕ} {ss₀ ts₀ : List ℕ} {ds₀ Ds₀ : List ℤ} where
     pub writing_done : length bs ≤ at + 2 → (rs : List Rule) → Text bs rs → ListsHold rs ss₀ ts₀ ds₀ Ds₀ ss ts ds Ds
     writing_done few rs text = subst (λ (x : List Rule). ListsHold x ss₀ ts₀ ds₀ Ds₀ ss ts ds Ds) (text_unique (progress_done w.progress few) text) w.lists
 
-    module _ (room : at + 2 < length bs) {a : RuleRow} (found : RowAt bs (at + 2) a) where
-      -- the text is right
-      row_right : a.right ≡ true
-      row_right = by a.right refl
-        where
-          by : (b : Bool) → a.right ≡ b → a.right ≡ true
-          by true e = e
-          by false e = absurd (text_not_broken (w.progress.whole w.left w.after) (progress_broken w.progress room (found.wrong e)))
+    -- the text is right
+    pub row_there : (a : Option RuleRow) → at + 2 < length bs → RowAt bs (at + 2) a → IsSome a
+    row_there (Some r) room found = refl
+    row_there None room lacking = absurd (text_not_broken (w.progress.whole w.left w.after) (progress_broken w.progress room lacking.none))
+
+    module _ (room : at + 2 < length bs) {o : Option RuleRow} {a : RuleRow} (read : RowAt bs (at + 2) o) (is : o ≡ Some a) where
+      found : RowStanding bs (at + 2) a
+      found = subst (RowAt bs (at + 2)) is read
 
       first : FirstRow (rule_of a) (drop a.next bs) w.left
       first =
-          let (line, row, bytes, ends, later) = found.right row_right in
-          rows_first (after_rows w.after (ending w.progress room)) bytes row ends
+          rows_first (after_rows w.after (ending w.progress room)) found.bytes found.row found.ends
 
       more_left : length w.left ≡ suc (length first.others)
       more_left = ap length first.rules
@@ -126,17 +131,13 @@ module _ {bs : List ℕ} {ss₀ ts₀ : List ℕ} {ds₀ Ds₀ : List ℤ} where
             mosts_place = omega (arith, mosts_length, w.mosts_room, w.place, more_left);
           }
 
-      pub row_later : at < a.next
-      row_later = omega (arith, (found.right row_right).4)
-
-      pub writing_more : RulesGoing bs ss₀ ts₀ ds₀ Ds₀ (set ss i a.source) (set ts i a.target) (set ds i a.least) (set Ds i a.most) a.next (i + 1)
+      pub writing_more : RulesGoing bs ss₀ ts₀ ds₀ Ds₀ (set ss i a.source) (set ts i a.target) (set ds i (word a.least)) (set Ds i (word a.most)) a.next (i + 1)
       writing_more =
-          let (line, row, bytes, ends, later) = found.right row_right in
           let more-done = one_more w.done (rule_of a) in
           record {
             done = w.done ++ (rule_of a ∷ []);
             left = first.others;
-            progress = progress_more w.progress room found.within row bytes ends row_later;
+            progress = progress_more w.progress room found.within found.row found.bytes found.ends (omega (arith, found.later));
             after = first.after;
             place = omega (arith, more-done, w.place);
             sources_room = omega (arith, more-done, w.sources_room, more_left);
@@ -147,7 +148,7 @@ module _ {bs : List ℕ} {ss₀ ts₀ : List ℕ} {ds₀ Ds₀ : List ℤ} where
                 record {
                   sources_hold = ap (λ (k : ℕ). set ss k a.source) w.place ∙ put_more (λ (r : Rule). r.source) w.done (rule_of a) ss₀ ss (omega (arith, w.sources_room, more_left)) w.lists.sources_hold;
                   targets_hold = ap (λ (k : ℕ). set ts k a.target) w.place ∙ put_more (λ (r : Rule). r.target) w.done (rule_of a) ts₀ ts (omega (arith, w.targets_room, more_left)) w.lists.targets_hold;
-                  leasts_hold = ap (λ (k : ℕ). set ds k a.least) w.place ∙ put_more (λ (r : Rule). r.least) w.done (rule_of a) ds₀ ds (omega (arith, w.leasts_room, more_left)) w.lists.leasts_hold;
-                  mosts_hold = ap (λ (k : ℕ). set Ds k a.most) w.place ∙ put_more (λ (r : Rule). r.most) w.done (rule_of a) Ds₀ Ds (omega (arith, w.mosts_room, more_left)) w.lists.mosts_hold;
+                  leasts_hold = (λ j. set ds (w.place j) (delay_back found.row.least_delay j)) ∙ put_more (λ (r : Rule). r.least) w.done (rule_of a) ds₀ ds (omega (arith, w.leasts_room, more_left)) w.lists.leasts_hold;
+                  mosts_hold = (λ j. set Ds (w.place j) (delay_back found.row.most_delay j)) ∙ put_more (λ (r : Rule). r.most) w.done (rule_of a) Ds₀ Ds (omega (arith, w.mosts_room, more_left)) w.lists.mosts_hold;
                 };
           }

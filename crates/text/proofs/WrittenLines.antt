@@ -202,9 +202,6 @@ module _ {n : ℕ} {table : List ℤ} {s at : ℕ} {o : List ℕ} where
       }
 
   module _ {t : ℕ} {m : List ℕ} {next : ℕ} (w : RowGoing n table s at o t m next) where
-    pub row_room : t < n → n ≤ 64 → at + 1984 ≤ length o → next + 31 ≤ length m
-    row_room l few_events room = omega (arith, w.few, appended_length w.appended)
-
     row_next_at : t < n → {p : List ℕ} {last : ℕ} → (bs : List ℕ) × LineOf s t (neg_ℤ (entry table t s)) (entry table s t) bs × (length bs ≤ 31) × Appended m next bs p last → RowGoing n table s at o (t + 1) p last
     row_next_at l written =
         record {
@@ -228,11 +225,6 @@ module _ {n : ℕ} {table : List ℤ} {s at : ℕ} {o : List ℕ} where
         let line' = subst (λ (x : ℤ). LineOf s t (neg_ℤ (entry table t s)) x written.0) (word_back (entry table s t) (small.each s t known l)) line in
         row_next_at l (written.0, line', written.2, written.3)
 
-    pub row_done : n ≤ t → n ≤ 64 → (next ≤ at + 1984) × ((bs : List ℕ) × TableLines n table (pairs_from n s) bs × Appended o at bs m next)
-    row_done l few_events =
-        let e : t ≡ n = omega (arith, w.within) in
-        (omega (arith, w.few, w.within), (w.bytes, subst (λ (k : ℕ). TableLines n table (pairs_to s k) w.bytes) e w.lines, w.appended))
-
 -- ---- all lines, while they are written: those of the events before s
 
 pub record TableGoing (n : ℕ) (table : List ℤ) (at : ℕ) (o : List ℕ) (s : ℕ) (m : List ℕ) (next : ℕ) : Type 0 where
@@ -247,9 +239,6 @@ module _ {n : ℕ} {table : List ℤ} {at : ℕ} {o : List ℕ} where
   table_start room = record { within = omega arith; few = omega arith; bytes = []; lines = none; appended = appended_none o at room }
 
   module _ {s : ℕ} {m : List ℕ} {next : ℕ} (w : TableGoing n table at o s m next) where
-    pub table_room : s < n → n ≤ 64 → at + 126976 ≤ length o → next + 1984 ≤ length m
-    table_room l few_events room = omega (arith, w.few, appended_length w.appended)
-
     pub table_next : s < n → {p : List ℕ} {last : ℕ} → (last ≤ next + 1984) × ((bs : List ℕ) × TableLines n table (pairs_from n s) bs × Appended m next bs p last) → TableGoing n table at o (s + 1) p last
     table_next l written =
         record {

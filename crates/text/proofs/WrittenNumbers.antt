@@ -1,9 +1,7 @@
 -- Laws of numbers written into a list that is long enough, and of the words that hold them.
 --     NaturalIn, IntegerIn           a number is written in at most so many places
 --     natural_in, integer_in         so it is, where there is room for them
---     minus_fits                     minus a small number fits a word
 --     word_back, minus_back          what the code forms is the number, or minus it
---     word_within, minus_within      and it is small
 -- Assumes nothing.
 use mathlib.Core.Path.{◌≡◌, subst}
 use mathlib.Core.List.{List}
@@ -13,10 +11,10 @@ use lib.Dec.{lit<}
 use lib.IntN.{ℤ, pos, neg_ℤ, ◌-ℤ◌}
 use lib.ListN.{length}
 use mir.Syntax.{w64}
-use mir.Val.{SFits, to_z, of_z}
+use mir.Val.{to_z, of_z}
 use Rattle.integers.specs.Within.{Within}
 use Rattle.integers.proofs.Integer.{linear, difference, negation}
-use Rattle.integers.proofs.Word.{within_fits, within_negation, read_back}
+use Rattle.integers.proofs.Word.{within_negation, read_back}
 use Rattle.numerals.specs.Numbers.{Natural, Integer}
 use Rattle.numerals.specs.Appending.{Appended, NaturalPut, IntegerPut}
 use Rattle.numerals.proofs.Decimal.{natural_places, integer_places}
@@ -44,17 +42,8 @@ module _ (z : ℤ) (k : Within 2046000000 z) where
   minus_of : pos 0 -ℤ word z ≡ neg_ℤ z
   minus_of = rw word_back (omega (linear, difference (pos 0) z, negation z))
 
-  pub minus_fits : SFits w64 (pos 0 -ℤ word z)
-  minus_fits = rw minus_of (within_fits w64 2046000000 (neg_ℤ z) (lit< tt) (within_negation k))
-
   pub minus_back : word (pos 0 -ℤ word z) ≡ neg_ℤ z
   minus_back = rw minus_of (read_back w64 2046000000 (neg_ℤ z) (lit< tt) (within_negation k))
-
-  pub word_within : Within 2046000000 (word z)
-  word_within = rw word_back k
-
-  pub minus_within : Within 2046000000 (word (pos 0 -ℤ word z))
-  minus_within = rw minus_back (within_negation k)
 
   -- a writer was handed the word
   pub integer_in : {o : List ℕ} {at : ℕ} {m : List ℕ} {next : ℕ} → at + 11 ≤ length o → IntegerPut o at (word z) m next → IntegerIn 11 o at z m next

@@ -8,10 +8,11 @@
 --     Output bs out         == out is what the pair program writes for the text bs
 --     output_places          == how many places a lent list needs for the output: every output fits (`output_fits`, proofs/Fitting.antt)
 --     ShortOutput out₀      == the lent list out₀ is too short
+--     output_numbers x      == an answer in numbers: refusal and place, 0 where there is none, and the bytes that were written
 --     PairsWritten …        == out, which held out₀, holds the output, and a is the answer: the refusal of the lent list, or how many bytes were written
 -- Every line ends in CR LF, `ending`. A text that is refused has an output too, its one line; so the answer's refusal is about the lent list alone. Assumes
 -- nothing.
-use Rattle.std.specs.Prelude.{◌≡◌, List, [], ◌∷◌, ◌++◌, map, ℕ, zero, suc, ◌-◌, ◌<◌, ◌≤◌, ℤ, length, drop}
+use Rattle.std.specs.Prelude.{◌≡◌, Result, Ok, Err, List, [], ◌∷◌, ◌++◌, map, ℕ, zero, suc, ◌-◌, ◌<◌, ◌≤◌, ℤ, length, drop}
 use Rattle.graphs.specs.Graph.{Graph}
 use Rattle.verdicts.specs.Verdict.{check, FirstOf, AtZero}
 use Rattle.graphs.specs.Refusal.{GraphVerdict}
@@ -20,6 +21,8 @@ use Rattle.numerals.specs.Numbers.{Natural, Integer}
 use Rattle.text.specs.Grammar.{Rule, Text}
 use Rattle.text.specs.Reading.{TextVerdict, events, graph_of_rules}
 use Rattle.text.specs.Answers.{NoLists}
+use Rattle.refusals.specs.declared.Refusal.{Refusal}
+use Rattle.refusals.specs.Numbers.{number_of, place_of}
 use Rattle.text.specs.declared.PairsAnswer.{PairsAnswer}
 
 pub record Pair : Type 0 where
@@ -100,6 +103,10 @@ output_places = 131072
 -- 02: "short output list 23"
 abbrev pub ShortOutput : List ℕ → Type 0
 ShortOutput out₀ = length out₀ < output_places
+
+abbrev pub output_numbers : Result ℕ Refusal → PairsAnswer
+output_numbers (Ok bytes) = record { refusal = 0; place = 0; bytes = bytes }
+output_numbers (Err r) = record { refusal = number_of r; place = place_of r; bytes = 0 }
 
 -- "A refusal returns its number and place … and every lent list keeps its contents"; "places beyond keep what they held"
 pub record PairsWritten (bs out₀ : List ℕ) (a : PairsAnswer) (out : List ℕ) : Type 0 where

@@ -3,3 +3,4 @@ pub mod Scanning
 pub mod Fields
 pub mod Header
 pub mod TableLines
+pub mod Tabling

@@ -8,14 +8,17 @@
 --     text_alone bs         == the refusals 1, 8, 21 and 22: those that speak of the text alone
 --     text_checks bs Short  == these and 23; Short says of the rules when a lent list is too short
 --     TextVerdict bs Short Rest == the first of them that applies, then Rest
---     ReadOff bs Short a   == a is the reading of bs
+--     ReadingNumbers, reading_numbers x    == a reading in numbers: refusal and place, 0 where there is none, and the two counts, 0 where it is refused
+--     ReadOff bs Short a   == a is the reading of bs, in numbers
 --     ListsHold rs …       == the four lent lists hold the rules rs, and beyond what they held
 --     RulesWritten bs a …  == what the four lent lists hold after
 -- ss₀, ts₀, ds₀, Ds₀ are the lists before, ss, ts, ds, Ds after. Assumes nothing.
-use Rattle.std.specs.Prelude.{◌≡◌, ◌⊎◌, List, [], ◌∷◌, ◌++◌, map, ℕ, suc, max, ◌<◌, ℤ, length, drop}
+use Rattle.std.specs.Prelude.{◌≡◌, ◌⊎◌, Result, Ok, Err, List, [], ◌∷◌, ◌++◌, map, ℕ, suc, max, ◌<◌, ℤ, length, drop}
 use Rattle.graphs.specs.Graph.{Graph, graph_of}
 use Rattle.verdicts.specs.Verdict.{Check, check, FirstThen, Accepted, AtZero}
 use Rattle.text.specs.Grammar.{Rule, Text, Broken}
+use Rattle.refusals.specs.declared.Refusal.{Refusal}
+use Rattle.refusals.specs.Numbers.{number_of, place_of}
 use Rattle.text.specs.declared.Reading.{Reading}
 
 abbrev pub events : List Rule → ℕ
@@ -63,7 +66,17 @@ text_checks bs Short = text_alone bs ++ (check 23 (AtZero (OfText bs Short)) ∷
 abbrev pub TextVerdict : List ℕ → (List Rule → Type 0) → (ℕ → ℕ → Type 0) → ℕ → ℕ → Type 0
 TextVerdict bs Short Rest = FirstThen (text_checks bs Short) Rest
 
-pub record ReadOff (bs : List ℕ) (Short : List Rule → Type 0) (a : Reading) : Type 0 where
+pub record ReadingNumbers : Type 0 where
+  pub refusal : ℕ
+  pub place : ℕ
+  pub events : ℕ
+  pub rules : ℕ
+
+abbrev pub reading_numbers : Result Reading Refusal → ReadingNumbers
+reading_numbers (Ok a) = record { refusal = 0; place = 0; events = a.events; rules = a.rules }
+reading_numbers (Err r) = record { refusal = number_of r; place = place_of r; events = 0; rules = 0 }
+
+pub record ReadOff (bs : List ℕ) (Short : List Rule → Type 0) (a : ReadingNumbers) : Type 0 where
   pub verdict : TextVerdict bs Short Accepted a.refusal a.place
   pub found : a.refusal ≡ 0 → (rs : List Rule) × Text bs rs × (a.events ≡ events rs) × (a.rules ≡ length rs)
   pub no_events : (a.refusal ≡ 0 → ⊥) → a.events ≡ 0
@@ -75,6 +88,6 @@ pub record ListsHold (rs : List Rule) (ss₀ ts₀ : List ℕ) (ds₀ Ds₀ : Li
   pub leasts_hold : ds ≡ leasts_of rs ++ drop (length rs) ds₀
   pub mosts_hold : Ds ≡ mosts_of rs ++ drop (length rs) Ds₀
 
-pub record RulesWritten (bs : List ℕ) (a : Reading) (ss₀ ts₀ : List ℕ) (ds₀ Ds₀ : List ℤ) (ss ts : List ℕ) (ds Ds : List ℤ) : Type 0 where
+pub record RulesWritten (bs : List ℕ) (a : ReadingNumbers) (ss₀ ts₀ : List ℕ) (ds₀ Ds₀ : List ℤ) (ss ts : List ℕ) (ds Ds : List ℤ) : Type 0 where
   pub written : a.refusal ≡ 0 → (rs : List Rule) → Text bs rs → ListsHold rs ss₀ ts₀ ds₀ Ds₀ ss ts ds Ds
   pub kept : (a.refusal ≡ 0 → ⊥) → (ss ≡ ss₀) × (ts ≡ ts₀) × (ds ≡ ds₀) × (Ds ≡ Ds₀)

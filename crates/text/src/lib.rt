@@ -7,10 +7,11 @@
 #![tactic(auto)]
 
 ghost use Rattle.std.specs.Prelude.{◌≡◌, List, ℕ, ◌≤◌, length};
-ghost use Rattle.separation.specs.Promise.{Nothing};
-ghost use Rattle.text.specs.Reading.{ReadOff, RulesWritten, ShortForRules};
+ghost use Rattle.separation.specs.Numbers.{answer_numbers};
+ghost use Rattle.text.specs.Reading.{reading_numbers, ReadOff, RulesWritten, ShortForRules};
 ghost use Rattle.text.specs.Answers.{TextAnswered};
-ghost use Rattle.text.specs.Output.{Output, output_places, PairsWritten};
+ghost use Rattle.text.specs.Output.{Output, output_places, output_numbers, PairsWritten};
+ghost use Rattle.text.specs.Parts.Tabling.{TableOfText};
 ghost use Rattle.numerals.specs.Appending.{Appended};
 
 mod lines;
@@ -20,25 +21,55 @@ mod scan;
 
 use crate::lines::{put_pairs, put_refusal};
 use crate::rules::write_rules;
-use crate::scan::{check_counts, refused, scan};
-use separation::Answer;
+use crate::scan::{check_counts, scan};
+use graphs::GraphLists;
+use refusals::Refusal;
+use separation::Separated;
 
-// The answer to a reading. `refusal` is 0, or the number of document 01's table, with its place; `events` and `rules` count what was read.
-#[derive(Clone, Copy)]
+// What a text may have.
+const MAX_BYTES: usize = 32768;
+
+const MAX_RULES: usize = 1024;
+
+// The places of the table of all pairs.
+const ENTRIES: usize = 4096;
+
+// The places that a list for the output needs.
+const OUTPUT_PLACES: usize = 131072;
+
+// How many events and rules a text has.
+#[derive(Clone, Copy, Debug, PartialEq, Eq)]
 pub struct Reading {
-    pub refusal: usize,
-    pub place: usize,
     pub events: usize,
     pub rules: usize,
 }
 
-// The answer to a writing of the pairs. `refusal` is 0, or 23 for a lent list that is too short, with its place; `bytes` counts what was written. A text
-// that is refused is none of its refusals: the line that says so is what was written.
-#[derive(Clone, Copy)]
+// The answer to a writing of the pairs in numbers, for callers that take no `Result`. `refusal` is 0, or 23 for a lent list that is too short, with its
+// place; `bytes` counts what was written. A text that is refused is none of its refusals: the line that says so is what was written.
+#[derive(Clone, Copy, Debug, PartialEq, Eq)]
 pub struct PairsAnswer {
     pub refusal: usize,
     pub place: usize,
     pub bytes: usize,
+}
+
+impl From<Result<usize, Refusal>> for PairsAnswer {
+    ghost from_gives = { λ answer numbers. numbers ≡ output_numbers answer };
+
+    fn from(answer: Result<usize, Refusal>) -> PairsAnswer {
+        match answer {
+            Ok(bytes) => PairsAnswer {
+                refusal: 0,
+                place: 0,
+                bytes,
+            },
+            Err(refusal) => PairsAnswer {
+                refusal: refusal.number(),
+                place: refusal.place(),
+                bytes: 0,
+            },
+        }
+    }
 }
 
 // The rules of a text, written into the four lent lists. Places beyond keep what they held; refused, all do.
@@ -48,66 +79,65 @@ pub fn read_rules(
     targets: &mut [usize],
     leasts: &mut [i64],
     mosts: &mut [i64],
-) -> Reading
-    ensures read_off { ReadOff text.now (ShortForRules sources.old targets.old leasts.old mosts.old) result }
-    ensures rules_written { RulesWritten text.now result sources.old targets.old leasts.old mosts.old sources.new targets.new leasts.new mosts.new }
+) -> Result<Reading, Refusal>
+    ensures read_off { ReadOff text.now (ShortForRules sources.old targets.old leasts.old mosts.old) (reading_numbers result) }
+    ensures rules_written { RulesWritten text.now (reading_numbers result) sources.old targets.old leasts.old mosts.old sources.new targets.new leasts.new mosts.new }
 {
-    if text.len() > 32768 {
-        return refused(1, 0);
+    if text.len() > MAX_BYTES {
+        return Err(Refusal::BytesOutside);
     }
-    let found = scan(text);
-    if found.refusal != 0 {
-        return found;
-    }
-    let counts = check_counts(
+    let found = scan(text)?;
+    check_counts(
         found,
         sources.len(),
         targets.len(),
         leasts.len(),
         mosts.len(),
-    );
-    if counts != 0 {
-        return refused(counts, 0);
-    }
+    )?;
     write_rules(text, sources, targets, leasts, mosts);
-    found
-}
-
-// The answer for a refusal of the reader's: separation 0, depths 0.
-fn unread(refusal: usize, place: usize) -> Answer
-    ensures { (result.refusal ≡ refusal) × (result.place ≡ place) × Nothing result }
-{
-    Answer {
-        refusal: refusal,
-        place: place,
-        separation: 0,
-        source_depth: 0,
-        target_depth: 0,
-    }
+    Ok(found)
 }
 
 // The greatest t(t) − t(s) over all executions of the text's graph, and the depths of s and t.
-pub fn text_separation(text: &[u8], s: usize, t: usize) -> Answer
-    ensures { TextAnswered text.now s t result }
+pub fn text_separation(text: &[u8], s: usize, t: usize) -> Result<Separated, Refusal>
+    ensures { TextAnswered text.now s t (answer_numbers result) }
 {
-    let mut sources = [0usize; 1024];
-    let mut targets = [0usize; 1024];
-    let mut leasts = [0i64; 1024];
-    let mut mosts = [0i64; 1024];
-    let found = read_rules(text, &mut sources, &mut targets, &mut leasts, &mut mosts);
-    if found.refusal != 0 {
-        return unread(found.refusal, found.place);
-    }
+    let mut sources = [0usize; MAX_RULES];
+    let mut targets = [0usize; MAX_RULES];
+    let mut leasts = [0i64; MAX_RULES];
+    let mut mosts = [0i64; MAX_RULES];
+    let found = read_rules(text, &mut sources, &mut targets, &mut leasts, &mut mosts)?;
     let rules = found.rules;
-    separation::separation(
-        found.events,
-        &sources[..rules],
-        &targets[..rules],
-        &leasts[..rules],
-        &mosts[..rules],
-        s,
-        t,
-    )
+    let lists = GraphLists {
+        events: found.events,
+        sources: &sources[..rules],
+        targets: &targets[..rules],
+        leasts: &leasts[..rules],
+        mosts: &mosts[..rules],
+    };
+    separation::separation(&lists, s, t)
+}
+
+// The table of all pairs of events of a text's graph, and how many events there are.
+fn tabulate(text: &[u8], entries: &mut [i64]) -> Result<usize, Refusal>
+    requires { length entries.old ≡ 4096 }
+    ensures { TableOfText text.now entries.new result }
+{
+    let mut sources = [0usize; MAX_RULES];
+    let mut targets = [0usize; MAX_RULES];
+    let mut leasts = [0i64; MAX_RULES];
+    let mut mosts = [0i64; MAX_RULES];
+    let found = read_rules(text, &mut sources, &mut targets, &mut leasts, &mut mosts)?;
+    let rules = found.rules;
+    let lists = GraphLists {
+        events: found.events,
+        sources: &sources[..rules],
+        targets: &targets[..rules],
+        leasts: &leasts[..rules],
+        mosts: &mosts[..rules],
+    };
+    table::fill_table(&lists, entries)?;
+    Ok(found.events)
 }
 
 // What the pair program writes for a text, into a lent list that is long enough; gives the number of bytes.
@@ -115,45 +145,19 @@ fn put_output(text: &[u8], out: &mut [u8]) -> usize
     requires { output_places ≤ length out.old }
     ensures { (bytes : List ℕ) × Output text.now bytes × Appended out.old 0 bytes out.new result }
 {
-    let mut sources = [0usize; 1024];
-    let mut targets = [0usize; 1024];
-    let mut leasts = [0i64; 1024];
-    let mut mosts = [0i64; 1024];
-    let found = read_rules(text, &mut sources, &mut targets, &mut leasts, &mut mosts);
-    if found.refusal != 0 {
-        return put_refusal(out, found.refusal, found.place);
+    let mut entries = [0i64; ENTRIES];
+    match tabulate(text, &mut entries) {
+        Ok(events) => put_pairs(out, events, &entries),
+        Err(refusal) => put_refusal(out, refusal),
     }
-    let rules = found.rules;
-    let mut entries = [0i64; 4096];
-    let answer = table::fill_table(
-        found.events,
-        &sources[..rules],
-        &targets[..rules],
-        &leasts[..rules],
-        &mosts[..rules],
-        &mut entries,
-    );
-    if answer.refusal != 0 {
-        return put_refusal(out, answer.refusal, answer.place);
-    }
-    put_pairs(out, found.events, &entries)
 }
 
 // What the pair program writes for a text, into a lent list of at least 131,072 places. A shorter list is refused, and keeps what it held.
-pub fn write_pairs(text: &[u8], out: &mut [u8]) -> PairsAnswer
-    ensures { PairsWritten text.now out.old result out.new }
+pub fn write_pairs(text: &[u8], out: &mut [u8]) -> Result<usize, Refusal>
+    ensures { PairsWritten text.now out.old (output_numbers result) out.new }
 {
-    if out.len() < 131072 {
-        return PairsAnswer {
-            refusal: 23,
-            place: 0,
-            bytes: 0,
-        };
+    if out.len() < OUTPUT_PLACES {
+        return Err(Refusal::ShortList);
     }
-    let bytes = put_output(text, out);
-    PairsAnswer {
-        refusal: 0,
-        place: 0,
-        bytes: bytes,
-    }
+    Ok(put_output(text, out))
 }

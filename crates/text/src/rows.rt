@@ -1,15 +1,13 @@
 // One row of a rule: four fields with commas between, then CR LF or the end of the text.
-ghost use Rattle.std.specs.Prelude.{◌≡◌, false, ◌≤◌, length};
-ghost use Rattle.numerals.specs.Numbers.{Number, Field};
+ghost use Rattle.std.specs.Prelude.{◌≤◌, length};
 ghost use Rattle.text.specs.Parts.Scanning.{RowAt};
-ghost use Rattle.text.specs.Parts.Fields.{EndAt, PartAt, Comma, Closing};
+ghost use Rattle.text.specs.Parts.Fields.{EndAt, CommaAt};
 
-use numerals::{DelayField, EventField, byte_at, delay_field, event_field};
+use numerals::{byte_at, delay_field, event_field};
 
-// Whether a row of a rule stands at a place, which rule, and where it stops.
+// A row of a rule that stands at a place, and where it stops.
 #[derive(Clone, Copy)]
 pub(crate) struct RuleRow {
-    pub(crate) right: bool,
     pub(crate) source: usize,
     pub(crate) target: usize,
     pub(crate) least: i64,
@@ -19,118 +17,40 @@ pub(crate) struct RuleRow {
 
 // Whether the text ends at a place, or CR LF stands there.
 pub(crate) fn end_at(text: &[u8], at: usize) -> bool
-    requires { (at ≤ length text.now) × (length text.now ≤ 32768) }
+    requires { at ≤ length text.now }
     ensures { EndAt text.now at result }
 {
-    if at == text.len() {
-        return true;
-    }
-    if !byte_at(text, at, 13) {
-        return false;
-    }
-    byte_at(text, at + 1, 10)
+    let rest = &text[at..];
+    rest.is_empty() || rest.starts_with(b"\r\n")
 }
 
-// An event number and a comma.
-fn event_and_comma(text: &[u8], at: usize) -> EventField
-    requires { (at ≤ length text.now) × (length text.now ≤ 32768) }
-    ensures { PartAt Number Comma text.now at result.right result.value result.next }
+// The place after the comma that stands at `at`.
+fn past_comma(text: &[u8], at: usize) -> Option<usize>
+    ensures { CommaAt text.now at result }
 {
-    let field = event_field(text, at);
-    let next = field.next;
-    if !byte_at(text, next, 44) {
-        return EventField {
-            right: false,
-            value: 0,
-            next: at,
-        };
-    }
-    EventField {
-        right: field.right,
-        value: field.value,
-        next: next + 1,
-    }
-}
-
-// A delay and a comma.
-fn delay_and_comma(text: &[u8], at: usize) -> DelayField
-    requires { (at ≤ length text.now) × (length text.now ≤ 32768) }
-    ensures { PartAt Field Comma text.now at result.right result.value result.next }
-{
-    let field = delay_field(text, at);
-    let next = field.next;
-    if !byte_at(text, next, 44) {
-        return DelayField {
-            right: false,
-            value: 0,
-            next: at,
-        };
-    }
-    DelayField {
-        right: field.right,
-        value: field.value,
-        next: next + 1,
-    }
-}
-
-// A delay and the end of the row, which is not passed.
-fn delay_and_end(text: &[u8], at: usize) -> DelayField
-    requires { (at ≤ length text.now) × (length text.now ≤ 32768) }
-    ensures { PartAt Field Closing text.now at result.right result.value result.next }
-{
-    let field = delay_field(text, at);
-    let next = field.next;
-    if !end_at(text, next) {
-        return DelayField {
-            right: false,
-            value: 0,
-            next: at,
-        };
-    }
-    field
-}
-
-// No row at `at`.
-fn no_row(at: usize) -> RuleRow
-    ensures { (result.right ≡ false) × (result.source ≡ 0) × (result.target ≡ 0) × (result.next ≡ at) }
-{
-    RuleRow {
-        right: false,
-        source: 0,
-        target: 0,
-        least: 0,
-        most: 0,
-        next: at,
+    if byte_at(text, at, b',') {
+        Some(at + 1)
+    } else {
+        None
     }
 }
 
 // The row at `at`.
-pub(crate) fn rule_row(text: &[u8], at: usize) -> RuleRow
-    requires { (at ≤ length text.now) × (length text.now ≤ 32768) }
+pub(crate) fn rule_row(text: &[u8], at: usize) -> Option<RuleRow>
     ensures { RowAt text.now at result }
 {
-    let source = event_and_comma(text, at);
-    if !source.right {
-        return no_row(at);
+    let source = event_field(text, at)?;
+    let target = event_field(text, past_comma(text, source.next)?)?;
+    let least = delay_field(text, past_comma(text, target.next)?)?;
+    let most = delay_field(text, past_comma(text, least.next)?)?;
+    if !end_at(text, most.next) {
+        return None;
     }
-    let target = event_and_comma(text, source.next);
-    if !target.right {
-        return no_row(at);
-    }
-    let least = delay_and_comma(text, target.next);
-    if !least.right {
-        return no_row(at);
-    }
-    let most = delay_and_end(text, least.next);
-    if !most.right {
-        return no_row(at);
-    }
-    RuleRow {
-        right: true,
+    Some(RuleRow {
         source: source.value,
         target: target.value,
         least: least.value,
         most: most.value,
         next: most.next,
-    }
+    })
 }

@@ -4,8 +4,10 @@ ghost use Rattle.text.specs.Grammar.{Rule, Text};
 ghost use Rattle.text.specs.Reading.{ListsHold};
 
 use crate::rows::rule_row;
+use crate::scan::HEADER;
 
 // The rules of the text, in order.
+#[tactic(auto, using(crate::proofs::Writing::writing_none))]
 pub(crate) fn write_rules(
     text: &[u8],
     sources: &mut [usize],
@@ -17,19 +19,16 @@ pub(crate) fn write_rules(
     requires text { (rs : List Rule) × Text text.now rs × (length rs ≤ length sources.old) × (length rs ≤ length targets.old) × (length rs ≤ length leasts.old) × (length rs ≤ length mosts.old) }
     ensures { (rs : List Rule) → Text text.now rs → ListsHold rs sources.old targets.old leasts.old mosts.old sources.new targets.new leasts.new mosts.new }
 {
-    let mut at = 24;
+    // Kept: each row says where the next begins, and one index serves four lists, so no `for` is plainer.
+    let mut at = HEADER.len();
     let mut i = 0;
     while at + 2 < text.len() {
-        let found = rule_row(text, at + 2);
-        let source = found.source;
-        let target = found.target;
-        let least = found.least;
-        let most = found.most;
-        sources[i] = source;
-        targets[i] = target;
-        leasts[i] = least;
-        mosts[i] = most;
+        let row = rule_row(text, at + 2).unwrap();
+        sources[i] = row.source;
+        targets[i] = row.target;
+        leasts[i] = row.least;
+        mosts[i] = row.most;
         i += 1;
-        at = found.next;
+        at = row.next;
     }
 }

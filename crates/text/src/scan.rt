@@ -1,83 +1,50 @@
 // The whole text read once, and nothing written: is it a text, of how many rules and events, or which row is broken?
-ghost use Rattle.std.specs.Prelude.{◌≡◌, true, false, List, ◌++◌, ℕ, suc, max, ◌<◌, ◌≤◌, length, drop};
-ghost use Rattle.verdicts.specs.Verdict.{FirstOf};
+ghost use Rattle.std.specs.Prelude.{◌≡◌, suc, max, ◌<◌, ◌≤◌, length};
+ghost use Rattle.refusals.specs.Numbers.{Refuses};
+ghost use Rattle.text.specs.Reading.{reading_numbers};
 ghost use Rattle.text.specs.Parts.Scanning.{reading_checks, Scanned};
 ghost use Rattle.text.specs.Parts.Header.{HeaderFound};
 
 use crate::Reading;
 use crate::rows::{end_at, rule_row};
+use refusals::Refusal;
 
-// The reading that refuses.
-pub(crate) fn refused(refusal: usize, place: usize) -> Reading
-    ensures { (result.refusal ≡ refusal) × (result.place ≡ place) × (result.events ≡ 0) × (result.rules ≡ 0) }
-{
-    Reading {
-        refusal: refusal,
-        place: place,
-        events: 0,
-        rules: 0,
-    }
-}
+// What a text may have.
+const MAX_EVENTS: usize = 64;
 
-// Refusal 21 for too many events, 22 for too many rules, 23 where a list of that many places is too short for them; else 0.
+const MAX_RULES: usize = 1024;
+
+// Refusal 21 for too many events, 22 for too many rules, 23 where a list of that many places is too short for them.
 pub(crate) fn check_counts(
     found: Reading,
     sources: usize,
     targets: usize,
     leasts: usize,
     mosts: usize,
-) -> usize
-    ensures { FirstOf (reading_checks found.events found.rules sources targets leasts mosts) result 0 }
+) -> Result<(), Refusal>
+    ensures { Refuses (reading_checks found.events found.rules sources targets leasts mosts) result }
 {
-    if found.events > 64 {
-        return 21;
+    if found.events > MAX_EVENTS {
+        return Err(Refusal::EventsOutside);
     }
-    if found.rules > 1024 {
-        return 22;
+    if found.rules > MAX_RULES {
+        return Err(Refusal::RulesOutside);
     }
-    if found.rules > sources {
-        return 23;
+    let places = sources.min(targets).min(leasts).min(mosts);
+    if found.rules > places {
+        return Err(Refusal::ShortList);
     }
-    if found.rules > targets {
-        return 23;
-    }
-    if found.rules > leasts {
-        return 23;
-    }
-    if found.rules > mosts {
-        return 23;
-    }
-    0
+    Ok(())
 }
 
-// Whether a list of bytes begins with another.
-fn begins_with(text: &[u8], prefix: &[u8]) -> bool
-    ensures yes { result ≡ true → text.now ≡ prefix.now ++ drop (length prefix.now) text.now }
-    ensures no { result ≡ false → (rest : List ℕ) → text.now ≡ prefix.now ++ rest → ⊥ }
-{
-    if text.len() < prefix.len() {
-        return false;
-    }
-    let mut i = 0;
-    while i < prefix.len() {
-        if text[i] != prefix[i] {
-            return false;
-        }
-        i += 1;
-    }
-    true
-}
+// The first line.
+pub(crate) const HEADER: &[u8] = b"source,target,least,most";
 
 // Whether the first line is the header.
 fn header_stands(text: &[u8]) -> bool
-    requires { length text.now ≤ 32768 }
     ensures { HeaderFound text.now result }
 {
-    let word = b"source,target,least,most";
-    if begins_with(text, word) {
-        return end_at(text, 24);
-    }
-    false
+    text.starts_with(HEADER) && end_at(text, HEADER.len())
 }
 
 // The number of events when a rule is read after others.
@@ -85,40 +52,29 @@ fn with_rule(events: usize, source: usize, target: usize) -> usize
     requires { (source < 10000000) × (target < 10000000) }
     ensures { result ≡ max (suc source) (max (suc target) events) }
 {
-    let mut most = events;
-    if most <= source {
-        most = source + 1;
-    }
-    if most <= target {
-        most = target + 1;
-    }
-    most
+    events.max(source + 1).max(target + 1)
 }
 
 // The whole text read once. A turn of the loop stands after a right row, and a row follows where more than its ending is left.
-pub(crate) fn scan(text: &[u8]) -> Reading
+#[tactic(auto, using(crate::proofs::Progress::counted_none, crate::proofs::Progress::counted_more))]
+pub(crate) fn scan(text: &[u8]) -> Result<Reading, Refusal>
     requires { length text.now ≤ 32768 }
-    ensures { Scanned text.now result }
+    ensures { Scanned text.now (reading_numbers result) }
 {
     if !header_stands(text) {
-        return refused(8, 1);
+        return Err(Refusal::BrokenRow(1));
     }
-    let mut at = 24;
+    // Kept: each row says where the next begins, so no `for` fits.
+    let mut at = HEADER.len();
     let mut rules = 0;
     let mut events = 1;
     while at + 2 < text.len() {
-        let found = rule_row(text, at + 2);
-        if !found.right {
-            return refused(8, rules + 2);
-        }
-        events = with_rule(events, found.source, found.target);
+        let Some(row) = rule_row(text, at + 2) else {
+            return Err(Refusal::BrokenRow(rules + 2));
+        };
+        events = with_rule(events, row.source, row.target);
         rules += 1;
-        at = found.next;
+        at = row.next;
     }
-    Reading {
-        refusal: 0,
-        place: 0,
-        events: events,
-        rules: rules,
-    }
+    Ok(Reading { events, rules })
 }

@@ -8,9 +8,11 @@
 --     AtZero A              == A holds, and the place is 0
 --     Lowest A p            == p is the lowest number of which A holds
 --     LowestOr k Good Bad r == what a search finds: r is the lowest number below k of which Bad holds, Good holds of all before it; or k, where there is none
+--     FoundAt k Good Bad i  == i is below k, Bad holds of it, and Good of all before it
+--     LowestIn k Good Bad o == what a search finds: the lowest number below k of which Bad holds, Good holds of all before it; or none, where Good holds of all
 -- A verdict is a relation of a number and a place. `FirstThen` of a list that is written out computes to a chain of `First` that ends in Rest.
 -- Assumes nothing.
-use Rattle.std.specs.Prelude.{◌≡◌, List, [], ◌∷◌, ℕ, ◌<◌, ◌≤◌}
+use Rattle.std.specs.Prelude.{◌≡◌, Option, Some, None, List, [], ◌∷◌, ℕ, ◌<◌, ◌≤◌}
 
 pub record Check : Type 1 where
   pub number : ℕ
@@ -46,3 +48,12 @@ pub record LowestOr (k : ℕ) (Good Bad : ℕ → Type 0) (r : ℕ) : Type 0 whe
   pub within : r ≤ k
   pub before : (i : ℕ) → i < r → Good i
   pub bad : r < k → Bad r
+
+pub record FoundAt (k : ℕ) (Good Bad : ℕ → Type 0) (i : ℕ) : Type 0 where
+  pub below : i < k
+  pub before : (j : ℕ) → j < i → Good j
+  pub bad : Bad i
+
+abbrev pub LowestIn : ℕ → (ℕ → Type 0) → (ℕ → Type 0) → Option ℕ → Type 0
+LowestIn k Good Bad (Some i) = FoundAt k Good Bad i
+LowestIn k Good Bad None = (j : ℕ) → j < k → Good j

@@ -1,38 +1,50 @@
 -- `analyse` meets its contract: what its parts promise, put together. Assumes nothing.
+use mathlib.Core.Path.{refl}
 use Prim.Native.Nat.{◌<◌}
 use native.Mathlib.Omega.{arith}
 use lib.ListN.{length}
-use Rattle.graphs.specs.Graph.{graph_of}
+use Rattle.std.proofs.lemmas.Result.{err_from_is_err_and}
+use Rattle.graphs.specs.Lists.{graph_in}
 use Rattle.graphs.specs.Limits.{CountsKept}
 use Rattle.refusals.proofs.Counts.{counts_of}
-use Rattle.analysis.proofs.Promises.{analysed_counts, analysed_short, analysed_input_refused}
+use Rattle.analysis.proofs.Promises.{analysed_counts, analysed_short, analysed_input, not_kept}
 use Rattle.analysis.proofs.analyse.Goals as goal
-use Rattle.analysis.proofs.analyse.Goals.{Start, Else-counts-ne0, Else-latest-n}
+use Rattle.analysis.proofs.analyse.Goals.{In_ok-check_counts, Else-latest-lists, then-s-lists-via-then-s-lists, then-s-lists-via-else-s-lists+then-t-lists}
 
-counts : (c : Else-counts-ne0) → CountsKept (graph_of c.args.n c.args.sources.now c.args.targets.now c.args.leasts.now c.args.mosts.now)
-counts c = counts_of c.if-counts-ne0.false c.check_counts-counts.ensures
+counts : (c : In_ok-check_counts) → CountsKept (graph_in c.args.lists.now)
+counts c = counts_of refl c.in_ok-check_counts.ensures
 
-room : (c : Else-latest-n) → length c.args.latest.now < c.args.n → ⊥
-room c l = omega (arith, c.if-latest-n.false)
+room : (c : Else-latest-lists) → length c.args.latest.now < c.args.lists.now.events → ⊥
+room c l = omega (arith, c.if-latest-lists.false)
 
-pub returns-then-counts-ne0 : goal.returns-then-counts-ne0
-returns-then-counts-ne0 c = analysed_counts _ c.if-counts-ne0.true c.refused.ensures c.check_counts-counts.ensures
+pub returns-in_err-check_counts : goal.returns-in_err-check_counts
+returns-in_err-check_counts c =
+    let p = err_from_is_err_and c.from_residual.result c.from_residual.ensures.1 in
+    rw (p.1, p.2) (analysed_counts c.in_err-check_counts.ensures)
 
-pub returns-then-latest-n : goal.returns-then-latest-n
-returns-then-latest-n c = analysed_short c.refused-then-latest-n.ensures (counts (goal.at.returns-then-latest-n c).Else-counts-ne0) c.if-latest-n.true
+pub returns-then-latest-lists : goal.returns-then-latest-lists
+returns-then-latest-lists c = analysed_short (counts (goal.at.returns-then-latest-lists c).In_ok-check_counts) c.if-latest-lists.true
 
-pub returns-then-not-both_known : goal.returns-then-not-both_known
-returns-then-not-both_known c =
-    analysed_input_refused (room (goal.at.returns-then-not-both_known c).Else-latest-n)
-    (λ k. c.both_known.ensures.no c.if-not-both_known.true (k.source_known, k.target_known))
-    c.input_refused.ensures
+pub input_refusal-requires : goal.input_refusal-requires
+input_refusal-requires c =
+    not_kept c.args.limit (graph_in c.args.lists.now) c.args.s c.args.t
+    (λ k. elim c.then-s-lists.branch [
+      | then-s-lists-via-then-s-lists w ↦ (let no : ⊥ = omega (arith, k.source_known, w.if-s-lists.true) in no)
+      | then-s-lists-via-else-s-lists+then-t-lists w ↦ (let no : ⊥ = omega (arith, k.target_known, w.if-t-lists.true) in no)
+    ])
 
-pub analyse_small-requires : goal.analyse_small-requires
-analyse_small-requires c =
-    let (s, t) = c.both_known.ensures.yes c.if-not-both_known.false in
-    record { counts_kept = (counts (goal.at.analyse_small-requires c).Else-counts-ne0, s, t, c.if-latest-n.false); small = (c.if-n-le64.true, c.if-sources-le1024.true) }
+pub returns-then-s-lists : goal.returns-then-s-lists
+returns-then-s-lists c = analysed_input (room (goal.at.returns-then-s-lists c).Else-latest-lists) c.input_refusal.ensures
 
-pub analyse_large-requires : goal.analyse_large-requires
-analyse_large-requires c =
-    let (s, t) = c.both_known.ensures.yes c.if-not-both_known.false in
-    (counts (goal.at.analyse_large-requires c).Else-counts-ne0, s, t, c.if-latest-n.false)
+pub analyse_within-requires-clause-counts_kept : goal.analyse_within-requires-clause-counts_kept
+analyse_within-requires-clause-counts_kept c =
+    (counts (goal.at.analyse_within-requires-clause-counts_kept c).In_ok-check_counts, c.if-s-lists.false, c.if-t-lists.false, c.if-latest-lists.false)
+
+pub analyse_within-requires-2-clause-counts_kept : goal.analyse_within-requires-2-clause-counts_kept
+analyse_within-requires-2-clause-counts_kept c =
+    (counts (goal.at.analyse_within-requires-2-clause-counts_kept c).In_ok-check_counts, c.if-s-lists.false, c.if-t-lists.false, c.if-latest-lists.false)
+
+pub analyse_within-requires-2-clause-room : goal.analyse_within-requires-2-clause-room
+analyse_within-requires-2-clause-room c =
+    let sizes = counts (goal.at.analyse_within-requires-2-clause-room c).In_ok-check_counts in
+    (sizes.few_events, omega arith, sizes.few_rules, omega arith)

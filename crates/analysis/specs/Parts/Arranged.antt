@@ -1,16 +1,19 @@
 -- What the parts of the analysis hand to one another.
 --     Room n rules heads nexts waiting order depth == the working lists have places enough, heads no more than 1,024, and the first and the third hold 0 everywhere
---     Computed g s t us₀ us a       == the graph has no cycle and every event is reachable; us holds U, and a both depths
---     PathsAnalysed g s t us₀ us a  == a is refusal 5 or 6, or us and a hold what was computed
---     InputRefused limit g s t a    == a gives the first of the refusals 21, 22 and 2 to 4 that applies, or number 0
+--     Computed g s t us₀ us d       == the graph has no cycle and every event is reachable; us holds U, and d both depths
+--     PathsOutcome g s t us₀ us x   == x is an answer, and it and us hold what was computed; or x is a refusal, and us is as it was
+--     PathsAnalysed g s t us₀ us x  == x is refusal 5 or 6, or such an answer
+--     InputKept limit g s t         == none of the refusals 21, 22 and 2 to 4 applies
 -- Assumes nothing.
-use Rattle.std.specs.Prelude.{◌≡◌, List, ℕ, ◌<◌, ◌≤◌, ℤ, length}
+use Rattle.std.specs.Prelude.{◌≡◌, Result, Ok, Err, List, ℕ, ◌<◌, ◌≤◌, ℤ, length}
 use Rattle.verdicts.specs.Verdict.{FirstOf}
 use Rattle.graphs.specs.Graph.{Graph}
 use Rattle.graphs.specs.Path.{HasCycle, Reachable, Depth}
 use Rattle.graphs.specs.Refusal.{question_checks_to, path_checks}
 use Rattle.refusals.specs.Question.{delay_limit}
-use Rattle.analysis.specs.declared.Analysis.{Analysis}
+use Rattle.refusals.specs.Numbers.{number_in, place_in}
+use Rattle.refusals.specs.declared.Refusal.{Refusal}
+use Rattle.analysis.specs.declared.Depths.{Depths}
 use Rattle.analysis.specs.Parts.Latest.{LatestFound}
 use Rattle.analysis.specs.Parts.Rules.{Zeros}
 
@@ -22,22 +25,20 @@ pub record Room (n rules : ℕ) (heads nexts waiting order depth : List ℕ) : T
   pub order_room : n ≤ length order
   pub depth_room : n ≤ length depth
 
-pub record Computed (g : Graph) (s t : ℕ) (us₀ us : List ℤ) (a : Analysis) : Type 0 where
+pub record Computed (g : Graph) (s t : ℕ) (us₀ us : List ℤ) (d : Depths) : Type 0 where
   pub acyclic : HasCycle g → ⊥
   pub reachable : (v : ℕ) → v < g.events → Reachable g v
   pub latest : LatestFound g s us₀ us
-  pub depth_of_source : Depth g s a.source_depth
-  pub depth_of_target : Depth g t a.target_depth
+  pub depth_of_source : Depth g s d.source
+  pub depth_of_target : Depth g t d.target
 
-pub record PathsAnalysed (g : Graph) (s t : ℕ) (us₀ us : List ℤ) (a : Analysis) : Type 0 where
-  pub verdict : FirstOf (path_checks g) a.refusal a.place
-  pub computed : a.refusal ≡ 0 → Computed g s t us₀ us a
-  pub no_source_depth : (a.refusal ≡ 0 → ⊥) → a.source_depth ≡ 0
-  pub no_target_depth : (a.refusal ≡ 0 → ⊥) → a.target_depth ≡ 0
-  pub kept : (a.refusal ≡ 0 → ⊥) → us ≡ us₀
+abbrev pub PathsOutcome : Graph → ℕ → ℕ → List ℤ → List ℤ → Result Depths Refusal → Type 0
+PathsOutcome g s t us₀ us (Ok d) = Computed g s t us₀ us d
+PathsOutcome g s t us₀ us (Err r) = us ≡ us₀
 
--- a refusal that needs no paths, or number 0
-pub record InputRefused (limit : ℕ) (g : Graph) (s t : ℕ) (a : Analysis) : Type 0 where
-  pub verdict : FirstOf (question_checks_to (delay_limit limit) g s t ⊥) a.refusal a.place
-  pub no_source_depth : a.source_depth ≡ 0
-  pub no_target_depth : a.target_depth ≡ 0
+pub record PathsAnalysed (g : Graph) (s t : ℕ) (us₀ us : List ℤ) (x : Result Depths Refusal) : Type 0 where
+  pub verdict : FirstOf (path_checks g) (number_in x) (place_in x)
+  pub outcome : PathsOutcome g s t us₀ us x
+
+abbrev pub InputKept : ℕ → Graph → ℕ → ℕ → Type 0
+InputKept limit g s t = FirstOf (question_checks_to (delay_limit limit) g s t ⊥) 0 0

@@ -2,6 +2,7 @@
 --     Last keys v k e              == e is 1 + the last rule below k whose key is v, or 0 where there is none
 --     Chained keys heads nexts     == from heads[v], by nexts, one goes through all rules with key v, the last one first
 --     ChainLists n keys heads nexts == so chained, with a head for each of n events and a place for each rule
+--     Falling nexts e              == from e, by nexts, one comes to ever lower rules
 -- Assumes nothing.
 use Rattle.std.specs.Prelude.{◌≡◌, List, ℕ, suc, ◌<◌, ◌≤◌, length, get_or}
 
@@ -18,3 +19,7 @@ pub record ChainLists (n : ℕ) (keys heads nexts : List ℕ) : Type 0 where
   pub chained : Chained keys heads nexts
   pub heads_room : n ≤ length heads
   pub nexts_room : length keys ≤ length nexts
+
+pub record Falling (nexts : List ℕ) (e : ℕ) : Type 0 where
+  pub within : e ≤ length nexts
+  pub falls : (i : ℕ) → i < e → get_or nexts i 0 ≤ i

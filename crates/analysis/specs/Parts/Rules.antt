@@ -1,5 +1,4 @@
 -- The rules, looked at one by one: checked, chained by target and counted by source.
---     RightDelays b d D            == d and D lie within b, and d is not above D
 --     RightRule n b u v d D        == a rule from u to v with the delays d and D names events below n, and its delays are right
 --     RuleRight b g i              == rule i of g is right
 --     EndsBelow n keys             == every key is an event
@@ -8,21 +7,16 @@
 --     Zeros n xs                   == xs has n places at least, and holds 0 at each
 --     RulesTaken b g heads nexts waiting x == x is true, every rule is right, they are chained by target and counted by source; or x is false, and one is not right
 -- Assumes nothing.
-use Rattle.std.specs.Prelude.{◌≡◌, Bool, true, false, List, ℕ, ◌<◌, ◌≤◌, ℤ, ◌≤ℤ◌, length, get_or}
-use Rattle.integers.specs.Within.{Within}
+use Rattle.std.specs.Prelude.{◌≡◌, Bool, true, false, List, ℕ, ◌<◌, ◌≤◌, ℤ, length, get_or}
 use Rattle.sequences.specs.Counted.{Counted}
 use Rattle.graphs.specs.Graph.{Graph, rules, source, target, least, most}
+use Rattle.refusals.specs.Faults.{BoundedDelays}
 use Rattle.analysis.specs.Parts.Chains.{ChainLists}
-
-pub record RightDelays (b : ℕ) (d D : ℤ) : Type 0 where
-  pub least_within : Within b d
-  pub most_within : Within b D
-  pub ordered : d ≤ℤ D
 
 pub record RightRule (n b u v : ℕ) (d D : ℤ) : Type 0 where
   pub source_known : u < n
   pub target_known : v < n
-  pub delays : RightDelays b d D
+  pub delays : BoundedDelays b d D
 
 abbrev pub RuleRight : ℕ → Graph → ℕ → Type 0
 RuleRight b g i = RightRule g.events b (source g i) (target g i) (least g i) (most g i)

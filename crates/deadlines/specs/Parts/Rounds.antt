@@ -2,7 +2,6 @@
 --     floor                             == no hard times have a gap as low: 01's sizes end one above it. No number is lowered further
 --     Below y z                         == y is at most z, or cut off at the floor
 --     NumbersWithin n xs                == the numbers of the n events lie within the floor, either side
---     CutOff x y                        == y is the greater of x and the floor
 --     ArcHeld a b w old new changed     == the number of b is lowered to that of a and w, and no further; no number is raised, and changed says whether one is lowered
 --     Meets h a b d D                   == h meets a rule, and is not cut off
 --     RuleHeld a b d D old new changed  == a rule is held both ways
@@ -22,11 +21,6 @@ Below y z = (y ≤ℤ z) ⊎ (y ≤ℤ floor)
 
 abbrev pub NumbersWithin : ℕ → List ℤ → Type 0
 NumbersWithin n xs = (v : ℕ) → v < n → Within 2046000001 (at xs v)
-
-pub record CutOff (x y : ℤ) : Type 0 where
-  pub not_below : x ≤ℤ y
-  pub floored : floor ≤ℤ y
-  pub one : (y ≡ x) ⊎ (y ≡ floor)
 
 pub record ArcHeld (a b : ℕ) (w : ℤ) (old new : List ℤ) (changed : Bool) : Type 0 where
   pub not_raised : (v : ℕ) → at new v ≤ℤ at old v

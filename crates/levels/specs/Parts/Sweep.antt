@@ -1,6 +1,7 @@
 -- What a sweep back over the levels holds: two levels, k + 1 whole and k in part.
 --     by_mark m here above                   == what stands at level k, for mark 0; at level k + 1, for another
 --     cap_ahead g caps above j, set_ahead g sets above j == so for the target of template j
+--     limit a f                             == the limit that number a and flag f stand for
 --     caps_of ms fs u, sets_of ss u           == the cap and the set of event u, as a level's lists hold them: of each m a number and whether it is unlimited, and
 --                                              a set
 --     Ranked g rank                         == along every mark-0 template the rank grows: sources come first
@@ -9,11 +10,11 @@
 --     Fits g full room k Done               == none of these sets has more than `room` pairs
 --     Swept g cap full rank room k r …      == level k + 1 is held whole, of level k the events with a rank of at least r; and no set found was too large
 -- cap and full are all caps and all sets of the graph unfolded in full, which the sweep does not store. Assumes nothing.
-use Rattle.std.specs.Prelude.{◌≡◌, Bool, false, List, ℕ, zero, suc, ◌<◌, ◌≤◌, ℤ, pos, length, get_or}
-use Rattle.sets.specs.Limit.{Limit}
+use Rattle.std.specs.Prelude.{◌≡◌, Bool, true, false, List, ℕ, zero, suc, ◌<◌, ◌≤◌, ℤ, pos, length, get_or}
+use Rattle.sets.specs.Limit.{Limit, number, unlimited}
 use Rattle.sets.specs.Pair.{Pair}
 use Rattle.sets.specs.Set.{pass_nothing}
-use Rattle.sets.specs.Held.{limit, pairs_of, held}
+use Rattle.sets.specs.Held.{pairs_of, held}
 use Rattle.sets.specs.declared.PrunedSet.{PrunedSet}
 use Rattle.processes.specs.declared.Event.{Event}
 use Rattle.processes.specs.Process.{templates, source, target, mark, occurrence, ProcessGraph}
@@ -27,6 +28,10 @@ cap_ahead g caps above j = by_mark (mark g j) (caps (target g j).0) (above (targ
 
 abbrev pub set_ahead : ProcessGraph → (ℕ → List Pair) → (ℕ → List Pair) → ℕ → List Pair
 set_ahead g sets above j = by_mark (mark g j) (sets (target g j).0) (above (target g j).0)
+
+abbrev pub limit : ℤ → Bool → Limit
+limit a false = number a
+limit a true = unlimited
 
 abbrev pub caps_of : List ℤ → List Bool → ℕ → Limit
 caps_of ms fs u = limit (get_or ms u (pos 0)) (get_or fs u false)

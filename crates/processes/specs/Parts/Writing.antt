@@ -1,13 +1,22 @@
--- What the writing of one rule, and of all rules, leaves in the four lent lists.
+-- What one rule of the unfolding is, and what the writing of all rules leaves in the four lent lists.
+--     TemplateTurn g k j        == what the rule of template j at k may count on: its numbers are small
 --     InstanceSource p k m i x  == x is the number of the source of the rule that a template with mark m and source i gives at k
 --     InstanceDelay k m d e x   == x is the delay of that rule where the template's is d and its start delay e
---     InstanceWritten g k j i … == the four lists hold the rule of template j at k in place i, and else what they held
---     InstancesWritten g K …    == they hold all rules, in order, and what they held beyond
+--     InstanceRule g k j s t d D == s, t, d and D are the rule of template j at k
+--     InstancesWritten g K …    == the four lists hold all rules, in order, and what they held beyond
 -- ss₀, ts₀, ds₀, Ds₀ are the lists before, ss, ts, ds, Ds after. Assumes nothing.
-use Rattle.std.specs.Prelude.{◌≡◌, List, ℕ, suc, ◌+◌, ◌*◌, ◌<◌, ℤ, length, drop, set}
+use Rattle.std.specs.Prelude.{◌≡◌, List, ℕ, suc, ◌+◌, ◌*◌, ◌<◌, ℤ, length, drop}
 use Rattle.graphs.specs.Graph.{graph_of}
 use Rattle.processes.specs.Process.{ProcessGraph, templates, source, target, least, most, mark, start_least, start_most, occurrence}
 use Rattle.processes.specs.Unfolding.{RuleAt}
+use Rattle.processes.specs.Parts.Checks.{ListsKept, MarkKept}
+
+pub record TemplateTurn (g : ProcessGraph) (k j : ℕ) : Type 0 where
+  pub lists : ListsKept g
+  pub is_template : j < templates g
+  pub source_small : k * g.events + (source g j).0 < 1024
+  pub target_small : k * g.events + (target g j).0 < 1024
+  pub marked : MarkKept g.marks j
 
 pub record InstanceSource (p k m i x : ℕ) : Type 0 where
   pub together : m ≡ 0 → x ≡ 1 + k * p + i
@@ -19,15 +28,7 @@ pub record InstanceDelay (k m : ℕ) (d e x : ℤ) : Type 0 where
   pub onward : (before : ℕ) → m ≡ 1 → k ≡ suc before → x ≡ d
   pub start : m ≡ 1 → k ≡ 0 → x ≡ e
 
-pub record InstanceWritten (g : ProcessGraph) (k j i : ℕ) (ss₀ ts₀ : List ℕ) (ds₀ Ds₀ : List ℤ) (ss ts : List ℕ) (ds Ds : List ℤ) : Type 0 where
-  pub s : ℕ
-  pub t : ℕ
-  pub d : ℤ
-  pub D : ℤ
-  pub sources_set : ss ≡ set ss₀ i s
-  pub targets_set : ts ≡ set ts₀ i t
-  pub leasts_set : ds ≡ set ds₀ i d
-  pub mosts_set : Ds ≡ set Ds₀ i D
+pub record InstanceRule (g : ProcessGraph) (k j : ℕ) (s t : ℕ) (d D : ℤ) : Type 0 where
   pub source_at : InstanceSource g.events k (mark g j) (source g j).0 s
   pub target_at : t ≡ (occurrence g k (target g j)).0
   pub least_at : InstanceDelay k (mark g j) (least g j) (start_least g j) d

@@ -1,52 +1,40 @@
 -- `round_delays` meets its contract: what `too_short`, `outside_delay`, `step_outside` and `round_lists` promise, put together. Assumes nothing.
 use Prim.Native.Nat.{ℕ, ◌<◌}
-use native.Mathlib.Omega.{arith}
 use lib.ListN.{length}
 use Rattle.refusals.specs.Faults.{DelaysInside}
 use Rattle.rounding.proofs.Promises.{Room, lowest_entry, all_inside, rounding_22, rounding_23, rounding_3, rounding_9, delays_refused, delays_rounded}
 use Rattle.rounding.proofs.round_delays.Goals as goal
-use Rattle.rounding.proofs.round_delays.Goals.{Else-too_short, Else-outside-leasts}
+use Rattle.rounding.proofs.round_delays.Goals.{Else-too_short, In_default}
 
 room : (c : Else-too_short) → Room (length c.args.leasts.now) (length c.args.mosts.now) (length c.args.low.now) (length c.args.high.now)
 room c =
     let h = c.too_short.ensures.no c.if-too_short.false in
     record { as_many = c.if-mosts-leasts.false; low_long = h.0; high_long = h.1 }
 
-inside : (c : Else-outside-leasts) (i : ℕ) → i < length c.args.leasts.now → DelaysInside c.args.leasts.now c.args.mosts.now i
-inside c = all_inside c.args.leasts.now c.args.mosts.now c.if-mosts-leasts.false c.outside_delay-outside.ensures c.if-outside-leasts.false
+inside : (c : In_default) (i : ℕ) → i < length c.args.leasts.now → DelaysInside c.args.leasts.now c.args.mosts.now i
+inside c = all_inside c.args.leasts.now c.args.mosts.now c.if-mosts-leasts.false c.in_default.ensures
 
 pub returns-then-mosts-leasts : goal.returns-then-mosts-leasts
-returns-then-mosts-leasts c =
-    delays_refused (omega arith) (rounding_22 c.args.low.now c.args.high.now c.if-mosts-leasts.true)
+returns-then-mosts-leasts c = delays_refused _ (rounding_22 c.args.low.now c.args.high.now c.if-mosts-leasts.true)
 
 pub returns-then-too_short : goal.returns-then-too_short
 returns-then-too_short c =
-    delays_refused (omega arith) (rounding_23 c.args.low.now c.args.high.now c.if-mosts-leasts.false (c.too_short.ensures.yes c.if-too_short.true))
+    delays_refused _ (rounding_23 c.args.low.now c.args.high.now c.if-mosts-leasts.false (c.too_short.ensures.yes c.if-too_short.true))
 
-pub returns-then-outside-leasts : goal.returns-then-outside-leasts
-returns-then-outside-leasts c =
-    let r = room (goal.at.returns-then-outside-leasts c).Else-too_short in
-    delays_refused (omega arith)
-    (rounding_3 c.args.low.now c.args.high.now r (lowest_entry c.args.leasts.now c.args.mosts.now r.as_many c.outside_delay-outside.ensures c.if-outside-leasts.true))
+pub returns-in-Some : goal.returns-in-Some
+returns-in-Some c =
+    let r = room (goal.at.returns-in-Some c).Else-too_short in
+    delays_refused _ (rounding_3 c.args.low.now c.args.high.now r (lowest_entry c.args.leasts.now c.args.mosts.now r.as_many c.in-Some.ensures))
 
 pub returns-then-step_outside : goal.returns-then-step_outside
 returns-then-step_outside c =
-    delays_refused (omega arith)
-    (rounding_9 c.args.low.now c.args.high.now (room (goal.at.returns-then-step_outside c).Else-too_short) (inside (goal.at.returns-then-step_outside c).Else-outside-leasts) (c.step_outside.ensures.yes c.if-step_outside.true))
-
-pub round_lists-requires : goal.round_lists-requires
-round_lists-requires c =
-    let step = c.step_outside.ensures.no c.if-step_outside.false in
-    let r = room (goal.at.round_lists-requires c).Else-too_short in record {
-      in_bounds = (step.0, step.1, r.as_many, r.low_long, r.high_long);
-      inside = λ i l.
-          let d = inside (goal.at.round_lists-requires c).Else-outside-leasts i l in
-          (d.least_within, d.most_within);
-    }
+    let r = room (goal.at.returns-then-step_outside c).Else-too_short in
+    let all = inside (goal.at.returns-then-step_outside c).In_default in
+    delays_refused _ (rounding_9 c.args.low.now c.args.high.now r all (c.step_outside.ensures.yes c.if-step_outside.true))
 
 pub returns : goal.returns
 returns c =
     let step = c.step_outside.ensures.no c.if-step_outside.false in
     let written = c.round_lists in
-    delays_rounded (room (goal.at.returns c).Else-too_short) (inside (goal.at.returns c).Else-outside-leasts) step.0 step.1
+    delays_rounded (room (goal.at.returns c).Else-too_short) (inside (goal.at.returns c).In_default) step.0 step.1
     written.ensures.lows written.auto.low written.ensures.highs written.auto.high

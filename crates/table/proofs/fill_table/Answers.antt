@@ -1,51 +1,42 @@
-use mathlib.Core.Path.{◌∙◌}
+use mathlib.Core.Path.{refl}
 use Prim.Native.Nat.{◌<◌, ◌≤◌}
 use lib.ListN.{length}
 use native.Mathlib.Omega.{arith}
-use Rattle.graphs.specs.Graph.{graph_of}
+use Rattle.std.proofs.Common.{Ok}
+use Rattle.std.proofs.lemmas.Result.{err_from_is_err_and}
+use Rattle.graphs.specs.Lists.{graph_in}
 use Rattle.refusals.proofs.Counts.{counts_none, counts_in}
-use Rattle.table.proofs.Rows.{rows_none, rows_more, TableSmall, table_counts, table_short, table_refused, table_done}
+use Rattle.table.proofs.Rows.{rows_more, TableSmall, table_counts, table_short, table_refused, table_done}
 use Rattle.table.proofs.fill_table.Goals as goal
-use Rattle.table.proofs.fill_table.Goals.{Start, Else-table-n}
+use Rattle.table.proofs.fill_table.Goals.{Else-table-lists}
 
 -- past the tests
-small : (c : Else-table-n) → TableSmall (graph_of c.args.n c.args.sources.now c.args.targets.now c.args.leasts.now c.args.mosts.now) c.args.table.now
-small c = record { none = counts_none c.if-counts-ne0.false c.check_counts-counts.ensures; room = c.if-table-n.false }
+small : (c : Else-table-lists) → TableSmall (graph_in c.args.lists.now) c.args.table.now
+small c = record { none = counts_none refl c.in_ok-check_counts.ensures; room = c.if-table-lists.false }
 
-few : (c : Else-table-n) → (0 < c.args.n) × (c.args.n ≤ 64) × (length c.args.sources.now ≤ 1024)
+few : (c : Else-table-lists) → (0 < c.args.lists.now.events) × (c.args.lists.now.events ≤ 64) × (length c.args.lists.now.sources.now ≤ 1024)
 few c = counts_in (small c).none
 
-pub returns-then-counts-ne0 : goal.returns-then-counts-ne0
-returns-then-counts-ne0 c = table_counts _ c.if-counts-ne0.true c.check_counts-counts.ensures
+pub returns-in_err-check_counts : goal.returns-in_err-check_counts
+returns-in_err-check_counts c =
+    let p = err_from_is_err_and c.from_residual.result c.from_residual.ensures.1 in
+    rw (p.1, p.2) (table_counts _ c.in_err-check_counts.ensures)
 
-pub overflow_mul-n : goal.overflow_mul-n
-overflow_mul-n c = record { fits = omega (arith, counts_in (counts_none c.if-counts-ne0.false c.check_counts-counts.ensures)) }
+pub returns-then-table-lists : goal.returns-then-table-lists
+returns-then-table-lists c = table_short (counts_none refl c.in_ok-check_counts.ensures) c.if-table-lists.true
 
-pub returns-then-table-n : goal.returns-then-table-n
-returns-then-table-n c = table_short (counts_none c.if-counts-ne0.false c.check_counts-counts.ensures) c.if-table-n.true
+pub fill_row-requires : goal.fill_row-requires
+fill_row-requires c =
+    let k = few (goal.at.fill_row-requires c).Else-table-lists in
+    (c.loop-from-test.true, k.1, k.2, omega (arith, c.if-table-lists.false, c.loop-from.invariant.others.same_length))
 
-pub loop-from-init : goal.loop-from-init
-loop-from-init c = (omega arith, rows_none)
-
-pub fill_row-answer-requires : goal.fill_row-answer-requires
-fill_row-answer-requires c =
-    (c.loop-from-test.true, (few (goal.at.fill_row-answer-requires c).Else-table-n).1, (few (goal.at.fill_row-answer-requires c).Else-table-n).2, omega (arith, (small (goal.at.fill_row-answer-requires c).Else-table-n).room, c.loop-from.invariant.1.others.same_length))
-
-pub shape_of-table-then-answer-ne0 : goal.shape_of-table-then-answer-ne0
-shape_of-table-then-answer-ne0 c = c.fill_row-answer.ensures.kept.same_length ∙ c.loop-from.invariant.1.others.same_length
-
-pub returns-then-answer-ne0 : goal.returns-then-answer-ne0
-returns-then-answer-ne0 c = table_refused (small (goal.at.returns-then-answer-ne0 c).Else-table-n) c.loop-from.invariant.1 c.fill_row-answer.ensures c.if-answer-ne0.true
-
-pub overflow_add-from : goal.overflow_add-from
-overflow_add-from c = record { fits = omega (arith, c.loop-from-test.true, (few (goal.at.overflow_add-from c).Else-table-n).1) }
+pub returns-in_err-fill_row : goal.returns-in_err-fill_row
+returns-in_err-fill_row c =
+    let p = err_from_is_err_and c.from_residual-in_err-fill_row.result c.from_residual-in_err-fill_row.ensures.1 in
+    rw (p.1, p.2) (table_refused (small (goal.at.returns-in_err-fill_row c).Else-table-lists) _ c.loop-from.invariant c.in_err-fill_row.ensures)
 
 pub loop-from-preserved : goal.loop-from-preserved
-loop-from-preserved c =
-    (omega (arith, c.loop-from-test.true), rows_more c.loop-from.invariant.1 c.fill_row-answer.ensures (few (goal.at.loop-from-preserved c).Else-table-n).1 c.if-answer-ne0.false)
-
-pub shape_of-table : goal.shape_of-table
-shape_of-table c = c.loop-from.invariant.1.others.same_length
+loop-from-preserved c = rows_more (Ok tt) c.loop-from.invariant c.in_ok-fill_row.ensures (few (goal.at.loop-from-preserved c).Else-table-lists).1 refl
 
 pub returns : goal.returns
-returns c = table_done (small (goal.at.returns c).Else-table-n) (omega (arith, c.loop-from-test.false, c.loop-from.invariant.0)) c.loop-from.invariant.1
+returns c = table_done (small (goal.at.returns c).Else-table-lists) (omega (arith, c.loop-from-test.false, c.loop-from.auto.from-end)) c.loop-from.invariant

@@ -1,9 +1,9 @@
--- `mark_sources` meets its contract. The loop's invariant is `Marking`; the measure is e, since nexts[e − 1] lies below it. Assumes nothing.
+-- `mark_sources` meets its contract. The loop's invariant is `Marking`, at the rules that are left. Assumes nothing.
+use mathlib.Core.Path.{◌≡◌}
 use Rattle.analysis.proofs.Marking.{Marking}
 use Rattle.analysis.proofs.cycles.mark_sources.Given as goal
 
-abbrev pub invariant-loop-e : goal.invariant-loop-e
-invariant-loop-e l = Marking l.sources l.targets l.event l.initial.seen l.initial.list l.listed l.e l.seen l.list l.end
-
-abbrev pub decreases-loop-e : goal.decreases-loop-e
-decreases-loop-e l = l.e
+abbrev pub invariant-loop-rule : goal.invariant-loop-rule
+invariant-loop-rule l =
+    (l.rule-iterator.nexts.now ≡ l.chains.nexts.now) ×
+    Marking l.chains.lists.sources.now l.chains.lists.targets.now l.event l.initial.seen l.initial.list l.listed l.rule-iterator.e l.seen l.list l.end

@@ -6,7 +6,7 @@ use Rattle.analysis.proofs.Searching.{Searching}
 use Rattle.analysis.proofs.cycles.on_cycle.Given as goal
 
 abbrev pub invariant-loop-at : goal.invariant-loop-at
-invariant-loop-at l = Searching l.sources l.targets l.v l.at l.seen l.list l.end × (length l.seen ≡ 1024) × (length l.list ≡ 1024)
+invariant-loop-at l = Searching l.chains.lists.sources.now l.chains.lists.targets.now l.v l.at l.seen l.list l.end × (length l.seen ≡ 1024) × (length l.list ≡ 1024)
 
 abbrev pub decreases-loop-at : goal.decreases-loop-at
 decreases-loop-at l = 1024 - l.at

@@ -1,16 +1,12 @@
--- `pull` meets its contract. The invariant: the walk stands at e, and `time` and `deep` are the greatest of what the rules passed bring (PullLaws.antt). The measure is
--- e: nexts[i] is at most i. Assumes nothing.
-use mathlib.Core.List.{List}
-use Prim.Native.Nat.{ℕ}
+-- `pull` meets its contract. The invariant: `time` and `deep` are the greatest of what the rules passed bring (PullLaws.antt). Assumes nothing.
+use mathlib.Core.Path.{◌≡◌}
 use lib.IntN.{pos}
-use Rattle.analysis.specs.Parts.Latest.{arrival_by, depth_by, Arrivals}
+use Rattle.analysis.specs.Parts.InChains.{arrival_in, depth_in}
 use Rattle.analysis.proofs.PullLaws.{Best}
 use Rattle.analysis.proofs.latest.pull.Given as goal
 
-abbrev pub invariant-loop-e : goal.invariant-loop-e
-invariant-loop-e l =
-    (n : ℕ) (ts : List ℕ) → Arrivals n l.sources ts l.heads l.nexts l.mosts l.us l.depth l.v →
-    Best ts (arrival_by l.sources l.mosts l.us) l.v l.e l.time × Best ts (depth_by l.sources l.depth) l.v l.e (pos l.deep)
-
-abbrev pub decreases-loop-e : goal.decreases-loop-e
-decreases-loop-e l = l.e
+abbrev pub invariant-loop-i : goal.invariant-loop-i
+invariant-loop-i l =
+    (l.i-iterator.nexts.now ≡ l.chains.nexts.now) ×
+    Best l.chains.lists.targets.now (arrival_in l.chains l.us) l.v l.i-iterator.e l.time ×
+    Best l.chains.lists.targets.now (depth_in l.chains l.depth) l.v l.i-iterator.e (pos l.deep)

@@ -1,16 +1,19 @@
 -- `broken_event` meets its contract. Assumes nothing.
-use mathlib.Core.Path.{sym, ap, ◌∙◌}
+use mathlib.Core.Path.{◌≡◌, refl, sym, ap, ◌∙◌}
+use lib.IntN.{pos}
+use Rattle.std.proofs.Common.{rules}
 use native.Mathlib.Omega.{arith}
 use mir.Syntax.{w64}
-use mir.Val.{to_z, of_z}
-use mir.ValLaws.{to_z-of_z}
+use mir.Val.{SFits, to_z}
+use mir.Facts.{to_z-of_z}
 use Rattle.graphs.proofs.Limits.{sound_of}
-use Rattle.claims.proofs.Breaking.{root_broken, met_root, met_at_root, events_judged}
+use Rattle.separation.specs.Promise.{at}
+use Rattle.claims.proofs.Breaking.{met_root, met_at_root, events_judged}
 use Rattle.claims.proofs.events.broken_event.Goals as goal
-
-pub returns-then-times-ne0 : goal.returns-then-times-ne0
-returns-then-times-ne0 c = root_broken _ _ _ (λ e. c.if-times-ne0.true (ap (of_z w64) e))
 
 pub returns : goal.returns
 returns c =
-    events_judged _ _ _ (sound_of c.requires.graph) (sym (to_z-of_z w64 _ (record { sfits = c.t11-1.given })) ∙ ap (to_z w64) c.if-times-ne0.false) _ _ _ (met_root 1024) (met_at_root 1024 (omega arith)) c.mark_rules-lowest.ensures _ c.lowest_unmet.ensures
+    let fits : SFits w64 (at c.args.claim.now.times.now 0) = search rules in
+    let root : at c.args.claim.now.times.now 0 ≡ pos 0 = sym (to_z-of_z fits) ∙ ap (to_z w64) c.if-claim-ne0.false in
+    rw (c.or.ensures, c.then_some.ensures)
+    (events_judged _ _ _ (sound_of c.requires.graph) root _ _ _ (met_root 1024) (met_at_root 1024 (omega arith)) c.mark_rules-unbroken.ensures _ _ refl c.lowest_unmet.ensures)

@@ -5,7 +5,7 @@ use Rattle.crankforest.proofs.judging.crankforest_judge.Goals as goal
 pub returns : goal.returns
 returns c =
     record {
-      judgement = c.judge-judgement.result;
-      judged = rw (to_z-of_z c.ranges.claimed) at c.judge-judgement.ensures;
-      numbers = c.as_numbers-numbers.ensures;
+      judgement = c.judge.result;
+      judged = rw (to_z-of_z c.ranges.claimed) at c.judge.ensures;
+      numbers = c.from-numbers.ensures;
     }

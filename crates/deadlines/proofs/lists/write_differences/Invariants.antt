@@ -1,5 +1,4 @@
 -- `write_differences` meets its contract: a loop that fills one place for each rule. Assumes nothing.
-use Prim.Native.Nat.{◌-◌}
 use lib.IntN.{pos}
 use lib.ListN.{length}
 use Rattle.sequences.proofs.Filling.{Filling}
@@ -8,6 +7,3 @@ use Rattle.deadlines.proofs.lists.write_differences.Given as goal
 
 abbrev pub invariant-loop-i : goal.invariant-loop-i
 invariant-loop-i l = Filling (pos 0) (length l.sources) (DifferenceAt l.sources l.targets l.times) l.initial.delays l.i l.delays
-
-abbrev pub decreases-loop-i : goal.decreases-loop-i
-decreases-loop-i l = length l.sources - l.i

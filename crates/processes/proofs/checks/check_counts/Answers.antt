@@ -1,90 +1,58 @@
 -- `check_counts` meets its contract: each test that fails is one way for a count to be outside, and past all of them none of the three refusals applies. A
 -- K that is too large makes the product too large, since p is above 0; past its test both factors are small, and no product wraps. Assumes nothing.
-use mathlib.Core.Path.{◌≡◌}
-use Prim.Native.Nat.{ℕ, ◌+◌, ◌*◌, ◌<◌, ◌≤◌}
-use native.Mathlib.Omega.{arith}
 use Rattle.graphs.specs.Refusal.{no_events, many_events}
-use Rattle.processes.specs.Process.{process_of}
+use Rattle.processes.specs.Lists.{process_in}
+use Rattle.processes.specs.Parts.Checks.{ListsKept}
 use Rattle.processes.specs.Unfolding.{many_templates, targets_differ, leasts_differ, mosts_differ, marks_differ, start_leasts_differ, start_mosts_differ, no_copies, many_occurrences, many_rules}
-use Rattle.processes.proofs.Products.{many, few}
-use Rattle.processes.proofs.Refusals.{ListsKept, count_21, count_22, count_24, count_0}
+use Rattle.processes.proofs.Numbers.{large_copies}
+use Rattle.processes.proofs.Refusals.{count_21, count_22, count_24, count_0, counts_within}
 use Rattle.processes.proofs.checks.check_counts.Goals as goal
-use Rattle.processes.proofs.checks.check_counts.Goals.{Start, Else-p-gt-MAX_PROCESS_EVENTS, Else-start_mosts-templates}
+use Rattle.processes.proofs.checks.check_counts.Goals.{Else-process-templates-6, then-process-eq0-via-then-process-eq0, then-process-eq0-via-else-process-eq0+then-process-gt-MAX_PROCESS_EVENTS}
+use Rattle.processes.proofs.checks.check_counts.Goals.{then-templates-gt-MAX_RULES-via-then-templates-gt-MAX_RULES, then-templates-gt-MAX_RULES-via-else-templates-gt-MAX_RULES+then-process-templates, then-templates-gt-MAX_RULES-via-else-templates-gt-MAX_RULES+else-process-templates+then-process-templates-2, then-templates-gt-MAX_RULES-via-else-templates-gt-MAX_RULES+else-process-templates+else-process-templates-2+then-process-templates-3, then-templates-gt-MAX_RULES-via-else-templates-gt-MAX_RULES+else-process-templates+else-process-templates-2+else-process-templates-3+then-process-templates-4, then-templates-gt-MAX_RULES-via-else-templates-gt-MAX_RULES+else-process-templates+else-process-templates-2+else-process-templates-3+else-process-templates-4+then-process-templates-5, then-templates-gt-MAX_RULES-via-else-templates-gt-MAX_RULES+else-process-templates+else-process-templates-2+else-process-templates-3+else-process-templates-4+else-process-templates-5+then-process-templates-6}
+use Rattle.processes.proofs.checks.check_counts.Goals.{then-copies-eq0-via-then-copies-eq0, then-copies-eq0-via-else-copies-eq0+then-copies-ge-MAX_EVENTS, then-copies-eq0-via-else-copies-eq0+else-copies-ge-MAX_EVENTS+then-process-copies-gt-MAX_EVENTS, then-copies-eq0-via-else-copies-eq0+else-copies-ge-MAX_EVENTS+else-process-copies-gt-MAX_EVENTS+then-templates-copies-gt-MAX_RULES}
 
-large-copies : (p K : ℕ) → 0 < p → 1024 ≤ K → 1024 < 1 + p * K
-large-copies p K l h = omega (arith, many K p l)
-
-small-rules : (T K : ℕ) → T ≤ 4096 → K < 1024 → T * K ≤ 4194304
-small-rules T K l h = let m : K ≤ 1024 = omega arith in omega (arith, few T K 4096 1024 l m)
-
-small-occurrences : (p K : ℕ) → p ≤ 1023 → K < 1024 → p * K ≤ 4194304
-small-occurrences p K l h = let m : p ≤ 4096 = omega arith in small-rules p K m h
-
-some : (c : Else-p-gt-MAX_PROCESS_EVENTS) → c.args.p ≡ 0 → ⊥
-some c = c.if-p-eq0.false
-
-few_events : (c : Else-p-gt-MAX_PROCESS_EVENTS) → c.args.p ≤ 1023
-few_events c = omega (arith, c.if-p-gt-MAX_PROCESS_EVENTS.false)
-
-lists : (c : Else-start_mosts-templates) → ListsKept (process_of c.args.p c.args.sources.now c.args.targets.now c.args.leasts.now c.args.mosts.now c.args.marks.now c.args.start_leasts.now c.args.start_mosts.now)
+lists : (c : Else-process-templates-6) → ListsKept (process_in c.args.process.now)
 lists c =
     record {
       few_templates = c.if-templates-gt-MAX_RULES.false;
-      targets_match = c.if-targets-templates.false;
-      leasts_match = c.if-leasts-templates.false;
-      mosts_match = c.if-mosts-templates.false;
-      marks_match = c.if-marks-templates.false;
-      start_leasts_match = c.if-start_leasts-templates.false;
-      start_mosts_match = c.if-start_mosts-templates.false;
+      targets_match = c.if-process-templates.false;
+      leasts_match = c.if-process-templates-2.false;
+      mosts_match = c.if-process-templates-3.false;
+      marks_match = c.if-process-templates-4.false;
+      start_leasts_match = c.if-process-templates-5.false;
+      start_mosts_match = c.if-process-templates-6.false;
     }
 
-pub returns-then-p-eq0 : goal.returns-then-p-eq0
-returns-then-p-eq0 c = count_21 (no_events c.if-p-eq0.true)
-
-pub returns-then-p-gt-MAX_PROCESS_EVENTS : goal.returns-then-p-gt-MAX_PROCESS_EVENTS
-returns-then-p-gt-MAX_PROCESS_EVENTS c = count_21 (many_events (omega (arith, c.if-p-gt-MAX_PROCESS_EVENTS.true)))
+pub returns-then-process-eq0 : goal.returns-then-process-eq0
+returns-then-process-eq0 c =
+    elim c.then-process-eq0.branch [
+      | then-process-eq0-via-then-process-eq0 w ↦ count_21 (no_events w.if-process-eq0.true)
+      | then-process-eq0-via-else-process-eq0+then-process-gt-MAX_PROCESS_EVENTS w ↦ count_21 (many_events w.if-process-gt-MAX_PROCESS_EVENTS.true)
+    ]
 
 pub returns-then-templates-gt-MAX_RULES : goal.returns-then-templates-gt-MAX_RULES
-returns-then-templates-gt-MAX_RULES c = count_22 (some (goal.at.returns-then-templates-gt-MAX_RULES c).Else-p-gt-MAX_PROCESS_EVENTS) (few_events (goal.at.returns-then-templates-gt-MAX_RULES c).Else-p-gt-MAX_PROCESS_EVENTS) (many_templates c.if-templates-gt-MAX_RULES.true)
-
-pub returns-then-targets-templates : goal.returns-then-targets-templates
-returns-then-targets-templates c = count_22 (some (goal.at.returns-then-targets-templates c).Else-p-gt-MAX_PROCESS_EVENTS) (few_events (goal.at.returns-then-targets-templates c).Else-p-gt-MAX_PROCESS_EVENTS) (targets_differ c.if-targets-templates.true)
-
-pub returns-then-leasts-templates : goal.returns-then-leasts-templates
-returns-then-leasts-templates c = count_22 (some (goal.at.returns-then-leasts-templates c).Else-p-gt-MAX_PROCESS_EVENTS) (few_events (goal.at.returns-then-leasts-templates c).Else-p-gt-MAX_PROCESS_EVENTS) (leasts_differ c.if-leasts-templates.true)
-
-pub returns-then-mosts-templates : goal.returns-then-mosts-templates
-returns-then-mosts-templates c = count_22 (some (goal.at.returns-then-mosts-templates c).Else-p-gt-MAX_PROCESS_EVENTS) (few_events (goal.at.returns-then-mosts-templates c).Else-p-gt-MAX_PROCESS_EVENTS) (mosts_differ c.if-mosts-templates.true)
-
-pub returns-then-marks-templates : goal.returns-then-marks-templates
-returns-then-marks-templates c = count_22 (some (goal.at.returns-then-marks-templates c).Else-p-gt-MAX_PROCESS_EVENTS) (few_events (goal.at.returns-then-marks-templates c).Else-p-gt-MAX_PROCESS_EVENTS) (marks_differ c.if-marks-templates.true)
-
-pub returns-then-start_leasts-templates : goal.returns-then-start_leasts-templates
-returns-then-start_leasts-templates c = count_22 (some (goal.at.returns-then-start_leasts-templates c).Else-p-gt-MAX_PROCESS_EVENTS) (few_events (goal.at.returns-then-start_leasts-templates c).Else-p-gt-MAX_PROCESS_EVENTS) (start_leasts_differ c.if-start_leasts-templates.true)
-
-pub returns-then-start_mosts-templates : goal.returns-then-start_mosts-templates
-returns-then-start_mosts-templates c = count_22 (some (goal.at.returns-then-start_mosts-templates c).Else-p-gt-MAX_PROCESS_EVENTS) (few_events (goal.at.returns-then-start_mosts-templates c).Else-p-gt-MAX_PROCESS_EVENTS) (start_mosts_differ c.if-start_mosts-templates.true)
+returns-then-templates-gt-MAX_RULES c =
+    let outside = count_22 c.if-process-eq0.false c.if-process-gt-MAX_PROCESS_EVENTS.false in
+    elim c.then-templates-gt-MAX_RULES.branch [
+      | then-templates-gt-MAX_RULES-via-then-templates-gt-MAX_RULES w ↦ outside (many_templates w.if-templates-gt-MAX_RULES.true)
+      | then-templates-gt-MAX_RULES-via-else-templates-gt-MAX_RULES+then-process-templates w ↦ outside (targets_differ w.if-process-templates.true)
+      | then-templates-gt-MAX_RULES-via-else-templates-gt-MAX_RULES+else-process-templates+then-process-templates-2 w ↦ outside (leasts_differ w.if-process-templates-2.true)
+      | then-templates-gt-MAX_RULES-via-else-templates-gt-MAX_RULES+else-process-templates+else-process-templates-2+then-process-templates-3 w ↦ outside (mosts_differ w.if-process-templates-3.true)
+      | then-templates-gt-MAX_RULES-via-else-templates-gt-MAX_RULES+else-process-templates+else-process-templates-2+else-process-templates-3+then-process-templates-4 w ↦ outside (marks_differ w.if-process-templates-4.true)
+      | then-templates-gt-MAX_RULES-via-else-templates-gt-MAX_RULES+else-process-templates+else-process-templates-2+else-process-templates-3+else-process-templates-4+then-process-templates-5 w ↦ outside (start_leasts_differ w.if-process-templates-5.true)
+      | then-templates-gt-MAX_RULES-via-else-templates-gt-MAX_RULES+else-process-templates+else-process-templates-2+else-process-templates-3+else-process-templates-4+else-process-templates-5+then-process-templates-6 w ↦ outside (start_mosts_differ w.if-process-templates-6.true)
+    ]
 
 pub returns-then-copies-eq0 : goal.returns-then-copies-eq0
-returns-then-copies-eq0 c = count_24 (some (goal.at.returns-then-copies-eq0 c).Else-p-gt-MAX_PROCESS_EVENTS) (few_events (goal.at.returns-then-copies-eq0 c).Else-p-gt-MAX_PROCESS_EVENTS) (lists (goal.at.returns-then-copies-eq0 c).Else-start_mosts-templates) (no_copies c.if-copies-eq0.true)
-
-pub returns-then-copies-ge-MAX_EVENTS : goal.returns-then-copies-ge-MAX_EVENTS
-returns-then-copies-ge-MAX_EVENTS c = count_24 (some (goal.at.returns-then-copies-ge-MAX_EVENTS c).Else-p-gt-MAX_PROCESS_EVENTS) (few_events (goal.at.returns-then-copies-ge-MAX_EVENTS c).Else-p-gt-MAX_PROCESS_EVENTS) (lists (goal.at.returns-then-copies-ge-MAX_EVENTS c).Else-start_mosts-templates) (many_occurrences (large-copies _ _ (omega (arith, some (goal.at.returns-then-copies-ge-MAX_EVENTS c).Else-p-gt-MAX_PROCESS_EVENTS)) c.if-copies-ge-MAX_EVENTS.true))
-
-pub overflow_mul-p : goal.overflow_mul-p
-overflow_mul-p c = record { fits = omega (arith, small-occurrences _ _ (few_events (goal.at.overflow_mul-p c).Else-p-gt-MAX_PROCESS_EVENTS) c.if-copies-ge-MAX_EVENTS.false) }
-
-pub overflow_add-p : goal.overflow_add-p
-overflow_add-p c = record { fits = omega (arith, small-occurrences _ _ (few_events (goal.at.overflow_add-p c).Else-p-gt-MAX_PROCESS_EVENTS) c.if-copies-ge-MAX_EVENTS.false) }
-
-pub returns-then-p-copies-gt-MAX_EVENTS : goal.returns-then-p-copies-gt-MAX_EVENTS
-returns-then-p-copies-gt-MAX_EVENTS c = count_24 (some (goal.at.returns-then-p-copies-gt-MAX_EVENTS c).Else-p-gt-MAX_PROCESS_EVENTS) (few_events (goal.at.returns-then-p-copies-gt-MAX_EVENTS c).Else-p-gt-MAX_PROCESS_EVENTS) (lists (goal.at.returns-then-p-copies-gt-MAX_EVENTS c).Else-start_mosts-templates) (many_occurrences c.if-p-copies-gt-MAX_EVENTS.true)
-
-pub overflow_mul-templates : goal.overflow_mul-templates
-overflow_mul-templates c = record { fits = omega (arith, small-rules _ _ (lists (goal.at.overflow_mul-templates c).Else-start_mosts-templates).few_templates c.if-copies-ge-MAX_EVENTS.false) }
-
-pub returns-then-templates-copies-gt-MAX_RULES : goal.returns-then-templates-copies-gt-MAX_RULES
-returns-then-templates-copies-gt-MAX_RULES c = count_24 (some (goal.at.returns-then-templates-copies-gt-MAX_RULES c).Else-p-gt-MAX_PROCESS_EVENTS) (few_events (goal.at.returns-then-templates-copies-gt-MAX_RULES c).Else-p-gt-MAX_PROCESS_EVENTS) (lists (goal.at.returns-then-templates-copies-gt-MAX_RULES c).Else-start_mosts-templates) (many_rules c.if-templates-copies-gt-MAX_RULES.true)
+returns-then-copies-eq0 c =
+    let some = c.if-process-eq0.false in
+    let outside = count_24 some c.if-process-gt-MAX_PROCESS_EVENTS.false (lists (goal.at.returns-then-copies-eq0 c).Else-process-templates-6) in
+    elim c.then-copies-eq0.branch [
+      | then-copies-eq0-via-then-copies-eq0 w ↦ outside (no_copies w.if-copies-eq0.true)
+      | then-copies-eq0-via-else-copies-eq0+then-copies-ge-MAX_EVENTS w ↦ outside (many_occurrences (large_copies _ _ some w.if-copies-ge-MAX_EVENTS.true))
+      | then-copies-eq0-via-else-copies-eq0+else-copies-ge-MAX_EVENTS+then-process-copies-gt-MAX_EVENTS w ↦ outside (many_occurrences w.if-process-copies-gt-MAX_EVENTS.true)
+      | then-copies-eq0-via-else-copies-eq0+else-copies-ge-MAX_EVENTS+else-process-copies-gt-MAX_EVENTS+then-templates-copies-gt-MAX_RULES w ↦ outside (many_rules w.if-templates-copies-gt-MAX_RULES.true)
+    ]
 
 pub returns : goal.returns
-returns c = count_0 (omega arith)
+returns c = count_0 (counts_within c.if-process-eq0.false c.if-copies-eq0.false c.if-process-copies-gt-MAX_EVENTS.false c.if-templates-copies-gt-MAX_RULES.false (lists (goal.at.returns c).Else-process-templates-6))

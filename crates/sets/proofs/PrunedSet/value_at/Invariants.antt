@@ -1,13 +1,8 @@
--- `value_at` meets its contract. The invariant: what is reached is the value of the pairs passed. Assumes nothing.
-use mathlib.Core.List.{map}
-use Prim.Native.Nat.{◌-◌, ◌≤◌}
-use lib.ListN.{take}
+-- `value_at` of a set meets its contract. The invariant: what is reached is the value of the pairs passed. Assumes nothing.
+use Rattle.std.proofs.Common.{map, take, Ok}
 use Rattle.sets.specs.Held.{pair_of}
 use Rattle.sets.specs.Promise.{Valued}
 use Rattle.sets.proofs.PrunedSet.value_at.Given as goal
 
-abbrev pub invariant-loop-i : goal.invariant-loop-i
-invariant-loop-i l = (l.i ≤ l.n) × Valued (map pair_of (take l.i l.pairs)) l.x l.reached
-
-abbrev pub decreases-loop-i : goal.decreases-loop-i
-decreases-loop-i l = l.n - l.i
+abbrev pub invariant-loop-pair : goal.invariant-loop-pair
+invariant-loop-pair l = Valued (map pair_of (take l.pair-index l.pair-items)) l.x (Ok l.greatest)

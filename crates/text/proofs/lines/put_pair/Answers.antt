@@ -1,13 +1,6 @@
 -- `put_pair` meets its contract: eight writings, one after the other. Assumes nothing.
-use mathlib.Core.Path.{◌∙◌}
-use Rattle.numerals.proofs.Appends.{put_length}
 use Rattle.text.proofs.WrittenLines.{line_put}
 use Rattle.text.proofs.lines.put_pair.Goals as goal
-
-pub shape_of-out : goal.shape_of-out
-shape_of-out c =
-    put_length c.put_bytes.ensures ∙ put_length c.put_integer-last.ensures.put ∙ put_length c.put_byte-comma-3.ensures ∙ put_length c.put_integer-third.ensures.put ∙
-    put_length c.put_byte-comma-2.ensures ∙ put_length c.put_natural-second.ensures.put ∙ put_length c.put_byte-comma.ensures ∙ put_length c.put_natural-first.ensures.put
 
 pub returns : goal.returns
 returns c =

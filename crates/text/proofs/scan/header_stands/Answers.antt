@@ -1,12 +1,10 @@
 -- `header_stands` meets its contract. Assumes nothing.
-use Rattle.text.proofs.Progress.{header_room, header_found, header_missing}
+use Rattle.std.proofs.lemmas.Bool.Decides.{Decides-eqb}
+use Rattle.std.proofs.lemmas.Slice.Eq.{starts_is}
+use Rattle.text.specs.Grammar.{header}
+use Rattle.text.proofs.Progress.{header_found}
 use Rattle.text.proofs.scan.header_stands.Goals as goal
 
-pub end_at-requires : goal.end_at-requires
-end_at-requires c = (header_room (c.begins_with.ensures.yes c.if-begins_with.true), c.requires)
-
-pub returns-then-begins_with : goal.returns-then-begins_with
-returns-then-begins_with c = header_found (c.begins_with.ensures.yes c.if-begins_with.true) c.end_at.ensures.right c.end_at.ensures.wrong
-
-pub returns : goal.returns
-returns c = header_missing (c.begins_with.ensures.no c.if-begins_with.false)
+pub returns-then-starts_with : goal.returns-then-starts_with
+returns-then-starts_with c =
+    header_found ((starts_is Decides-eqb _ header _ c.starts_with.ensures.value).0 c.if-starts_with.true) c.end_at.ensures.right c.end_at.ensures.wrong
