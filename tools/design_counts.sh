@@ -23,7 +23,7 @@ count '5 functions that take the rule lists one by one' '^    sources: &\[usize\
 count '6a arrays in the stack' '\[[^]]*; [0-9A-Z_:]+\]'
 count '6b counts beside an array' '^    pub count: usize'
 count '7 tables of functions, switches on a step' 'dyn |fn\(|[^a-zA-Z]Fn(Once|Mut)?\('
-printf '%-58s %d\n' '8a answer files' "$(find crates -name Answers.antt | wc -l)"
-printf '%-58s %d\n' '8b lines of answers' "$(find crates -name Answers.antt -exec cat {} + | wc -l)"
-printf '%-58s %d\n' '8c invariant files' "$(find crates -name Invariants.antt | wc -l)"
+printf '%-58s %d\n' '8a answer files' "$(find crates -name Answers.antt -not -path "*/out/*" | wc -l)"
+printf '%-58s %d\n' '8b lines of answers' "$(find crates -name Answers.antt -not -path "*/out/*" -exec cat {} + | wc -l)"
+printf '%-58s %d\n' '8c invariant files' "$(find crates -name Invariants.antt -not -path "*/out/*" | wc -l)"
 printf '%-58s %d\n' '8d lines of laws (proofs/*.antt)' "$(cat crates/*/proofs/*.antt | wc -l)"

@@ -1,12 +1,10 @@
 -- What the parts of the analysis hand on, put together.
---     zeros              a new list of zeros has zeros
---     rules_kept         the limits that the rules of a graph keep whose events are known
 --     sized_up           a graph whose delays lie within 1,000,000 may be analysed
 --     sized_right        a graph whose counts are kept and whose rules are right, and back: right_sized
 --     lowest_not_reached    what the search for an unreached event finds
---     ends_wider         keys below n are below any larger number
 --     some_on, lowest_on    where there is a cycle, some event lies on one, and what the search finds is the lowest
 --     path_5, path_6, path_0    refusals 5 and 6, and that neither applies
+--     cycle_refused      where `arrange` refuses, refusal 5 applies
 --     path_refused       refusal 5 or 6 is what the passes answer
 --     path_computed      and so is what they computed
 -- Assumes nothing.
@@ -15,9 +13,7 @@ use Rattle.std.specs.Option.{IsSome}
 use mathlib.Core.Path.{refl}
 use mathlib.Core.List.{List, []}
 use Prim.Native.Nat.{ℕ, ◌<◌, ◌≤◌}
-use native.Mathlib.Omega.{arith}
 use lib.IntN.{ℤ}
-use lib.ListN.{replicate, length-replicate, get_or-replicate}
 use Rattle.integers.proofs.Word.{within_wider}
 use Rattle.graphs.specs.Graph.{Graph, graph_of, rules}
 use Rattle.graphs.specs.Path.{OnCycle, HasCycle, Reachable}
@@ -29,27 +25,13 @@ use Rattle.graphs.proofs.Refusals.{cycle_misses, path_none}
 use Rattle.graphs.specs.Limits.{CountsKept, Sized}
 use Rattle.refusals.specs.Numbers.{number_of, place_of}
 use Rattle.refusals.specs.declared.Refusal.{Refusal}
+use Rattle.refusals.specs.declared.Refusal.TheVariants.{Cycle}
 use Rattle.analysis.specs.declared.Depths.{Depths}
-use Rattle.analysis.specs.Parts.Rules.{RuleRight, EndsBelow, RulesKept, Zeros}
+use Rattle.analysis.specs.Parts.InChains.{CycleRefused}
+use Rattle.analysis.specs.Parts.Rules.{RuleRight, EndsBelow}
 use Rattle.graphs.proofs.Cycle.{leaves_below}
 use Rattle.analysis.specs.Parts.Cycles.{LiesOn, LiesOff}
 use Rattle.analysis.specs.Parts.Arranged.{Computed, PathsAnalysed}
-
-pub zeros : (k : ℕ) {n : ℕ} → n ≤ k → Zeros n (replicate k 0)
-zeros k l = record { room = omega (arith, length-replicate {A = ℕ} k 0); zero = λ v h. get_or-replicate {A = ℕ} k v 0 0 (omega (arith, length-replicate {A = ℕ} k 0)) }
-
-pub ends_wider : {n m : ℕ} {keys : List ℕ} → n ≤ m → EndsBelow n keys → EndsBelow m keys
-ends_wider l e = record { below = λ i h. omega (arith, e.below i h) }
-
-pub rules_kept : {b n : ℕ} {ss ts : List ℕ} {ds Ds : List ℤ} → Sized b (graph_of n ss ts ds Ds) → RulesKept n ss ts
-rules_kept sized =
-    record {
-      few_events = sized.counts.few_events;
-      few_rules = sized.counts.few_rules;
-      targets_match = sized.counts.targets_match;
-      sources_below = record { below = λ i h. (sized.ends i h).source_known };
-      targets_below = record { below = λ i h. (sized.ends i (omega (arith, sized.counts.targets_match))).target_known };
-    }
 
 pub sized_up : {a b : ℕ} {g : Graph} → a ≤ b → Sized a g → Sized b g
 sized_up {g = g} l s =
@@ -103,6 +85,10 @@ module _ {g : Graph} where
 
   pub path_0 : (HasCycle g → ⊥) → ((v : ℕ) → v < g.events → Reachable g v) → FirstOf (path_checks g) 0 0
   path_0 acyclic reachable = none_accepted (path_checks g) (path_none acyclic reachable)
+
+pub cycle_refused : {g : Graph} (r : Refusal) → CycleRefused g r → FirstOf (path_checks g) (number_of r) (place_of r)
+cycle_refused (Cycle v) lowest = path_5 lowest
+cycle_refused _ none = absurd none
 
 module _ {g : Graph} {s t : ℕ} where
   pub path_refused : {us : List ℤ} {r : Refusal} → FirstOf (path_checks g) (number_of r) (place_of r) → PathsAnalysed g s t us us (Err r)

@@ -3,13 +3,16 @@
 --     other_rank    an event of another rank is another event
 --     back_more     once the event at place k has had its turn, Q' holds of every event of rank k or more
 --     back_all      at the end it holds of every event
+--     Begins xs order             xs is the part of the order that is left
+--     begins_take, begins_back    the first n places at the start; after the last of them, the others are left
 -- Assumes nothing.
-use mathlib.Core.Path.{◌≡◌, ap, subst, ◌∙◌}
-use mathlib.Core.List.{List}
-use Prim.Native.Nat.{ℕ, ◌+◌, ◌<◌, ◌≤◌, zero-le}
+use mathlib.Core.Path.{◌≡◌, sym, ap, subst, ◌∙◌}
+use mathlib.Core.List.{List, [], ◌∷◌, ◌++◌}
+use Prim.Native.Nat.{ℕ, ◌+◌, ◌-◌, ◌<◌, ◌≤◌, zero-le}
 use native.Mathlib.Decide.{dec_lt}
 use native.Mathlib.Omega.{arith}
-use lib.ListN.{get_or}
+use lib.ListN.{length, get_or, take, get_or-append}
+use Rattle.std.proofs.lemmas.List.{length_push, get_or_push, length-take-le, get_or-take}
 use Rattle.analysis.specs.Parts.Order.{Order}
 
 module _ (n : ℕ) (ss ts order : List ℕ) (rank : ℕ → ℕ) (o : Order n ss ts order rank) where
@@ -37,3 +40,18 @@ module _ (n : ℕ) (ss ts order : List ℕ) (rank : ℕ → ℕ) (o : Order n ss
 
   pub back_all : (Q : ℕ → Type 0) → ((w : ℕ) → w < n → 0 ≤ rank w → Q w) → (w : ℕ) → w < n → Q w
   back_all Q after w l = after w l zero-le
+
+abbrev pub Begins : List ℕ → List ℕ → Type 0
+Begins xs order = (k : ℕ) → k < length xs → get_or xs k 0 ≡ get_or order k 0
+
+pub begins_take : (n : ℕ) (order : List ℕ) → n ≤ length order → Begins (take n order) order
+begins_take n order room k l = get_or-take n order k 0 (omega (arith, length-take-le n order room))
+
+pub begins_back : (xs order : List ℕ) (e : ℕ) → Begins (xs ++ e ∷ []) order → (length (xs ++ e ∷ []) - 1 ≡ length xs) × (0 < length (xs ++ e ∷ [])) × (get_or order (length (xs ++ e ∷ []) - 1) 0 ≡ e) × Begins xs order
+begins_back xs order e front =
+    let one : length (xs ++ e ∷ []) - 1 ≡ length xs = omega (arith, length_push xs e) in (
+      one,
+      omega (arith, length_push xs e),
+      sym (front _ (omega (arith, length_push xs e))) ∙ get_or_push xs e 0 _ (sym one),
+      λ k l. sym (get_or-append xs (e ∷ []) 0 k l) ∙ front k (omega (arith, length_push xs e)),
+    )

@@ -6,7 +6,7 @@
 -- Why led_reachable holds. From an event that isn't the root one goes back along a rule, to an event that comes later in the order; as there are only n places,
 -- this ends, and it can end at the root alone. Assumes nothing.
 use mathlib.Core.Path.{◌≡◌, refl, sym, ap, subst, ◌∙◌}
-use mathlib.Core.List.{List}
+use mathlib.Core.List.{List, [], ◌∷◌, ◌++◌}
 use Prim.Native.Nat.{ℕ, zero, suc, ◌+◌, ◌-◌, ◌<◌, ◌≤◌}
 use native.Mathlib.Decide.{ℕ_discrete}
 use native.Mathlib.Omega.{arith}
@@ -19,8 +19,8 @@ use Rattle.graphs.specs.Graph.{Graph, graph_of}
 use Rattle.graphs.specs.Path.{Path, stay, Reachable}
 use Rattle.graphs.proofs.Paths.{along, LastRule, no_last, last, last_rule}
 use Rattle.analysis.specs.Parts.Chains.{Last}
-use Rattle.analysis.specs.Parts.Reach.{Arranged, Led, Marked, MarkReady, MarkOf, at_root, marked, unmarked, AllMarked}
-use Rattle.analysis.proofs.Places.{back_more, back_all}
+use Rattle.analysis.specs.Parts.Reach.{Arranged, Led, Marked, MarkOf, at_root, marked, unmarked, AllMarked}
+use Rattle.analysis.proofs.Places.{back_more, back_all, Begins, begins_back}
 
 module _ (n : ℕ) (ss ts heads nexts order : List ℕ) (a : Arranged n ss ts heads nexts order) where
   source_later : (i v : ℕ) → i < length ss → get_or ts i 0 ≡ v → a.rank v < a.rank (get_or ss i 0)
@@ -63,9 +63,6 @@ module _ (n : ℕ) (ss ts heads nexts order : List ℕ) (a : Arranged n ss ts he
   module _ (marks : List ℕ) (k : ℕ) (some : 0 < k) (m : MarksFrom marks k) where
     v_known : get_or order (k - 1) 0 < n
     v_known = a.ordered.order_below (k - 1) (omega (arith, m.place))
-
-    pub mark_ready : MarkReady n ss ts heads nexts marks (get_or order (k - 1) 0)
-    mark_ready = record { kept = a.kept; chains = a.chains; known = v_known; room = m.room }
 
     pub marks_turn : (r : ℕ) → MarkOf ss ts marks (get_or order (k - 1) 0) r → MarksFrom (set marks (get_or order (k - 1) 0) r) (k - 1)
     marks_turn r is =
@@ -113,6 +110,13 @@ module _ (n : ℕ) (ss ts heads nexts order : List ℕ) (a : Arranged n ss ts he
             by : (p : Path (graph_of n ss ts ds Ds) 0 (get_or order (k - 1) 0)) → LastRule (graph_of n ss ts ds Ds) 0 (get_or order (k - 1) 0) p → ⊥
             by p (no_last same few zero-sum) = other (sym same)
             by p (last i l into q one_more its-sum) = (source_marked ds Ds i l into).no_path (never.none refl i (omega (arith, a.kept.targets_match)) into) q
+
+  -- the same of an event that stands last in what is left of the order
+  pub marks_back : (marks xs : List ℕ) (e : ℕ) → Begins (xs ++ e ∷ []) order → MarksFrom marks (length (xs ++ e ∷ [])) → (r : ℕ) → MarkOf ss ts marks e r → MarksFrom (set marks e r) (length xs)
+  marks_back marks xs e front m r is =
+      let (one, some, here, rest) = begins_back xs order e front in
+      subst (MarksFrom (set marks e r)) one
+      (subst (λ (v : ℕ). MarksFrom (set marks v r) (length (xs ++ e ∷ []) - 1)) here (marks_turn marks (length (xs ++ e ∷ [])) some m r (subst (λ (v : ℕ). MarkOf ss ts marks v r) (sym here) is)))
 
   pub marks_end : (marks : List ℕ) (k : ℕ) → k ≤ 0 → MarksFrom marks k → AllMarked n ss ts marks
   marks_end marks k none m ds Ds = back_all n ss ts order a.rank a.ordered (Marked (graph_of n ss ts ds Ds) marks) (λ w l h. m.each ds Ds w l (omega arith))

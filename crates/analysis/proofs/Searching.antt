@@ -1,5 +1,6 @@
 -- The search for an event on a cycle.
 --     unmarked, listing_none     at first nothing is marked
+--     lowest_in_range            what `find` gives, as the lowest event on a cycle
 --     Searching … at …           the events listed below `at` have been gone through
 --     searching_start, searching_step, searching_known, searching_end
 -- The idea. Every marked event leads to v by a path on which a rule stands, since it was marked as the source of a rule into v or into an event marked
@@ -9,18 +10,29 @@ use mathlib.Core.Path.{◌≡◌, refl, sym, subst, ◌∙◌}
 use mathlib.Core.Bool.{Bool, true, false, true≢false}
 use mathlib.Core.Logic.{⊎_elim}
 use mathlib.Core.List.{List, []}
-use Prim.Native.Nat.{ℕ, zero, suc, ◌+◌, ◌<◌, ◌≤◌}
+use Prim.Native.Nat.{ℕ, zero, suc, ◌+◌, ◌<◌, ◌≤◌, zero-le}
 use native.Mathlib.Decide.{dec_lt}
 use native.Mathlib.Omega.{arith}
 use lib.IntN.{ℤ}
 use lib.ListN.{length, get_or, replicate}
+use Rattle.std.proofs.Common.{Option, Some, None}
+use Rattle.std.specs.Prelude.{MatchOption}
+use Rattle.verdicts.specs.Verdict.{LowestIn}
 use Rattle.graphs.specs.Graph.{graph_of}
 use Rattle.graphs.specs.Path.{Path, stay, step, steps}
 use Rattle.graphs.proofs.Paths.{empty_ends}
 use Rattle.graphs.proofs.Cycle.{leaves_below}
 use Rattle.sequences.proofs.Counting.{counted_all}
 use Rattle.analysis.specs.Parts.Rules.{EndsBelow}
-use Rattle.analysis.specs.Parts.Cycles.{Listing, Marked, LiesOn, LiesOff}
+use Rattle.analysis.specs.Parts.Cycles.{Listing, Marked, CycleAt}
+
+-- what `find` over the numbers below n gives
+pub lowest_in_range :
+    (n : ℕ) (Good Bad : ℕ → Type 0) (o : Option ℕ) →
+    MatchOption o ((k : ℕ) → 0 ≤ k → k < n → Good k) (λ i. (0 ≤ i) × (i < n) × Bad i × ((k : ℕ) → 0 ≤ k → k < i → Good k)) →
+    LowestIn n Good Bad o
+lowest_in_range n Good Bad (Some i) found = let (from, below, bad, before) = found in record { below = below; before = λ k l. before k zero-le l; bad = bad }
+lowest_in_range n Good Bad None none = λ k l. none k zero-le l
 
 -- ---- at first
 
@@ -118,5 +130,5 @@ module _ (ss ts : List ℕ) (match : length ts ≡ length ss) (v : ℕ) where
               let last : y ≡ w = empty_ends p (omega arith) in
               subst (λ (z : ℕ). get_or seen z false ≡ true) from (x.first i (omega arith) (to ∙ last ∙ e))
 
-      pub searching_end : (get_or seen v false ≡ true → LiesOn ss ts v) × (get_or seen v false ≡ false → LiesOff ss ts v)
-      searching_end = (x.leads v, λ unseen k ds Ds (p, some). true≢false (sym (all_seen p refl some) ∙ unseen))
+      pub searching_end : CycleAt ss ts v (get_or seen v false)
+      searching_end = record { on = x.leads v; off = λ unseen k ds Ds (p, some). true≢false (sym (all_seen p refl some) ∙ unseen) }

@@ -3,6 +3,9 @@
 //     arrange            the order, or the lowest event on a cycle
 //     analyse_arranged   what follows once the events are in order
 //     find_latest        m and U
+//     input_refusal      the refusal of a question that names what is not there, or has a delay out of range
+// Kept: `chains` and `order` are two parameters, and no struct: what `ArrangedIn` says of them holds the rank of each event, which is data, and a ghost field
+// holds propositions only.
 ghost use Rattle.std.specs.Prelude.{◌<◌, ◌≤◌, length};
 ghost use Rattle.graphs.specs.Lists.{graph_in};
 ghost use Rattle.graphs.specs.Limits.{CountsKept, Sized, EventGraph};
@@ -49,13 +52,15 @@ fn analyse_arranged(
     requires in_bounds { (s < chains.now.lists.events) × (t < chains.now.lists.events) × (chains.now.lists.events ≤ length depth.old) × (chains.now.lists.events ≤ length latest.old) }
     ensures { PathsAnalysed (graph_in chains.now.lists) s t latest.old latest.new result }
 {
-    if let Some(event) = lowest_unreached(chains, order, depth) {
+    // A copy: behind a reference, the writes to the lists could change it, and each turn of a loop would read it again.
+    let chains = *chains;
+    if let Some(event) = lowest_unreached(&chains, order, depth) {
         return Err(Refusal::Unreached(event));
     }
-    find_latest(chains, order, s, depth, latest);
+    find_latest(&chains, order, s, depth, latest);
     Ok(Depths {
-        source: depth[s] as usize,
-        target: depth[t] as usize,
+        source: usize::from(depth[s]),
+        target: usize::from(depth[t]),
     })
 }
 
@@ -72,10 +77,12 @@ fn arrange(chains: &Chains<'_>, waiting: &mut [u16], order: &mut [u16]) -> Resul
     requires { FirstReadyIn chains.now waiting.old order.old }
     ensures { ArrangedOr chains.now order.new result }
 {
-    if order_events(chains, waiting, order) {
+    // A copy, as in `analyse_arranged`.
+    let chains = *chains;
+    if order_events(&chains, waiting, order) {
         return Ok(());
     }
-    let event = lowest_on_cycle(chains).unwrap();
+    let event = lowest_on_cycle(&chains).unwrap();
     Err(Refusal::Cycle(event))
 }
 

@@ -1,5 +1,6 @@
 // The rules of a graph, chained by target. `heads[v]` is 1 + the last rule into v, and `nexts[i]` is 1 + the rule before rule i with the same target; 0 ends a
-// list. A chain has 16 bits, which is enough for 4,096 rules, so that both lists stay in the nearest cache.
+// list.
+// Kept: 0 and 1 + a rule, and no `Option`, in fixed memory: 16 bits are enough for 4,096 rules, so that both lists stay in the nearest cache.
 ghost use Rattle.std.specs.Prelude.{◌≡◌, suc, ◌<◌, get_or, MatchOption};
 ghost use Rattle.std.specs.Iterator.{at_most};
 ghost use Rattle.analysis.specs.Parts.Chains.{ChainLists, Falling};
@@ -51,7 +52,7 @@ impl<'a> Iterator for RulesInto<'a> {
         if self.e == 0 {
             return None;
         }
-        let i = self.e as usize - 1;
+        let i = usize::from(self.e) - 1;
         self.e = self.nexts[i];
         Some(i)
     }

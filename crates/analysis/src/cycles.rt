@@ -3,14 +3,16 @@
 //     lowest_on_cycle    the lowest event that lies on a cycle
 //     on_cycle           whether an event does
 //     mark_sources       one step back from an event
-ghost use Rattle.std.specs.Prelude.{◌≡◌, true, false, ◌<◌, ◌≤◌, length};
+ghost use Rattle.std.specs.Prelude.{◌<◌, ◌≤◌, length};
 ghost use Rattle.verdicts.specs.Verdict.{LowestIn};
 ghost use Rattle.analysis.specs.Parts.Cycles.{Listing};
-ghost use Rattle.analysis.specs.Parts.InChains.{MarkedIn, LiesOnIn, LiesOffIn};
+ghost use Rattle.analysis.specs.Parts.InChains.{MarkedIn, LiesOnIn, LiesOffIn, CycleAtIn};
 
+use crate::MAX_EVENTS;
 use crate::chains::Chains;
 
 // Marks the sources of the rules into `event`, and lists those that were not marked. The answer is how many events are listed.
+// Kept: the list has its end beside it; it is fixed memory, with no heap.
 fn mark_sources(
     chains: &Chains<'_>,
     event: usize,
@@ -37,16 +39,15 @@ fn mark_sources(
 // Whether event `v` lies on a cycle: whether it is marked once nothing new can be.
 fn on_cycle(chains: &Chains<'_>, v: usize) -> bool
     requires { v < chains.now.lists.events }
-    ensures yes { result ≡ true → LiesOnIn chains.now v }
-    ensures no { result ≡ false → LiesOffIn chains.now v }
+    ensures { CycleAtIn chains.now v result }
 {
-    let mut seen = [false; 1024];
-    let mut list = [0u16; 1024];
+    let mut seen = [false; MAX_EVENTS];
+    let mut list = [0u16; MAX_EVENTS];
     let mut end = mark_sources(chains, v, &mut seen, &mut list, 0);
     let mut at = 0;
     // Kept: each turn may move the end, which no range does.
     while at < end {
-        end = mark_sources(chains, list[at] as usize, &mut seen, &mut list, end);
+        end = mark_sources(chains, usize::from(list[at]), &mut seen, &mut list, end);
         at += 1;
     }
     seen[v]
@@ -56,10 +57,5 @@ fn on_cycle(chains: &Chains<'_>, v: usize) -> bool
 pub(crate) fn lowest_on_cycle(chains: &Chains<'_>) -> Option<usize>
     ensures { LowestIn chains.now.lists.events (LiesOffIn chains.now) (LiesOnIn chains.now) result }
 {
-    for v in 0..chains.lists.events {
-        if on_cycle(chains, v) {
-            return Some(v);
-        }
-    }
-    None
+    (0..chains.lists.events).find(|v| on_cycle(chains, *v))
 }

@@ -9,7 +9,7 @@ use crate::chains::Chains;
 use crate::paths::delay_of;
 
 // The greatest U(source) + D, and the greatest depth of a source, and 1.
-#[derive(Clone, Copy)]
+#[derive(Clone, Copy, Debug, PartialEq, Eq)]
 struct Arrival {
     time: i32,
     depth: u16,
@@ -63,8 +63,8 @@ pub(crate) fn find_u(chains: &Chains<'_>, order: &[u16], us: &mut [i32], depth: 
     requires { (s : ℕ) × LatestReadyIn chains.now order.now s us.old depth.old }
     ensures { (s : ℕ) → LatestReadyIn chains.now order.now s us.old depth.old → LatestFound (graph_in chains.now.lists) s us.old us.new × DepthsFound (graph_in chains.now.lists) depth.new }
 {
-    for k in (0..chains.lists.events).rev() {
-        let v = order[k] as usize;
+    for event in order[..chains.lists.events].iter().rev() {
+        let v = usize::from(*event);
         if v != 0 {
             settle(chains, v, us, depth);
         }

@@ -1,5 +1,6 @@
 // An order of the events from the sinks to the root, by Kahn's steps: an event is placed when all rules out of it have been served. The time is in
 // proportion to the events and the rules.
+// Kept: the list of the placed events has its end beside it, as `tail`; it is fixed memory, with no heap.
 ghost use Rattle.std.specs.Prelude.{◌+◌, ◌<◌};
 ghost use Rattle.analysis.specs.Parts.InChains.{FirstReadyIn, ServingIn, OrderedIn};
 
@@ -11,8 +12,8 @@ fn place_first(chains: &Chains<'_>, waiting: &[u16], order: &mut [u16]) -> usize
     ensures { ServingIn chains.now waiting.now order.new result 0 }
 {
     let mut tail = 0;
-    for v in 0..chains.lists.events {
-        if waiting[v] == 0 {
+    for (v, left) in waiting[..chains.lists.events].iter().enumerate() {
+        if *left == 0 {
             order[tail] = v as u16;
             tail += 1;
         }
@@ -34,7 +35,7 @@ fn serve(
     ensures { ServingIn chains.now waiting.new order.new result (head + 1) }
 {
     let mut end = tail;
-    for rule in chains.rules_into(order[head] as usize) {
+    for rule in chains.rules_into(usize::from(order[head])) {
         let source = chains.lists.sources[rule];
         let left = waiting[source] - 1;
         waiting[source] = left;
@@ -60,6 +61,7 @@ fn serve_all(chains: &Chains<'_>, waiting: &mut [u16], order: &mut [u16], first:
 }
 
 // Writes the order into `order` and answers true, or answers false where the graph has a cycle. `waiting` counts the rules by source.
+// Kept: a plain yes or no; where it is false, nobody reads what the lists hold.
 pub(crate) fn order_events(chains: &Chains<'_>, waiting: &mut [u16], order: &mut [u16]) -> bool
     requires { FirstReadyIn chains.now waiting.old order.old }
     ensures { OrderedIn chains.now order.new result }

@@ -45,8 +45,8 @@ fn push_all(chains: &Chains<'_>, order: &[u16], m: &mut [i32])
     requires { (s : ℕ) × (m₀ : List ℤ) × PassReadyIn chains.now order.now s m₀ m.old }
     ensures { (s : ℕ) (m₀ : List ℤ) → PassReadyIn chains.now order.now s m₀ m.old → MAll (graph_in chains.now.lists) s m₀ m.new }
 {
-    for k in 0..chains.lists.events {
-        let v = order[k] as usize;
+    for event in &order[..chains.lists.events] {
+        let v = usize::from(*event);
         if m[v] != ABSENT {
             push(chains, v, m);
         }

@@ -1,6 +1,6 @@
 // The lowest event that the root doesn't reach. Where the graph has no cycle and every event but the root has a rule into it, the root reaches them all; only
-// where one has none the events are marked, from the root on, and looked through. A mark is 1 or 0 in the list that holds the depths afterwards, so that it
-// takes no memory of its own.
+// where one has none the events are marked, from the root on, and looked through.
+// Kept: a mark is 1 or 0, and no `bool`: it stands in the list that holds the depths afterwards, so that it takes no memory of its own.
 ghost use Rattle.std.specs.Prelude.{◌≡◌, true, ◌<◌, ◌≤◌, length, get_or};
 ghost use Rattle.verdicts.specs.Verdict.{LowestIn};
 ghost use Rattle.graphs.specs.Lists.{graph_in};
@@ -14,12 +14,10 @@ use crate::chains::Chains;
 fn all_led(chains: &Chains<'_>) -> bool
     ensures { result ≡ true → Led chains.now.lists.events chains.now.heads.now }
 {
-    for v in 1..chains.lists.events {
-        if chains.heads[v] == 0 {
-            return false;
-        }
-    }
-    true
+    chains.heads[..chains.lists.events]
+        .iter()
+        .skip(1)
+        .all(|head| *head != 0)
 }
 
 // Whether the source of a rule into `v` is marked.
@@ -27,12 +25,9 @@ fn source_marked(chains: &Chains<'_>, marks: &[u16], v: usize) -> bool
     requires { (v < chains.now.lists.events) × (chains.now.lists.events ≤ length marks.now) }
     ensures { SourceMarkedIn chains.now marks.now v result }
 {
-    for i in chains.rules_into(v) {
-        if marks[chains.lists.sources[i]] != 0 {
-            return true;
-        }
-    }
-    false
+    chains
+        .rules_into(v)
+        .any(|i| marks[chains.lists.sources[i]] != 0)
 }
 
 // The mark of `v`, from those of the sources of the rules into it.
@@ -48,8 +43,8 @@ fn mark_reached(chains: &Chains<'_>, order: &[u16], marks: &mut [u16])
     requires { ArrangedIn chains.now order.now × (chains.now.lists.events ≤ length marks.old) }
     ensures { AllMarkedIn chains.now marks.new }
 {
-    for k in (0..chains.lists.events).rev() {
-        let v = order[k] as usize;
+    for event in order[..chains.lists.events].iter().rev() {
+        let v = usize::from(*event);
         marks[v] = mark_of(chains, marks, v);
     }
 }

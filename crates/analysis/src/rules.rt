@@ -22,6 +22,7 @@ fn rule_right(lists: &GraphLists<'_>, bound: u32, i: usize) -> bool
 }
 
 // Chains and counts the rules and answers true, or answers false at the first that is not right.
+// Kept: a plain yes or no; where it is false, nobody reads what the lists hold.
 pub(crate) fn take_rules(
     lists: &GraphLists<'_>,
     bound: u32,

@@ -19,11 +19,9 @@ use Rattle.std.proofs.Common.{Option, Some, None, nat_lt}
 use Rattle.std.proofs.lemmas.Bool.Decides.{nat_tests}
 use Rattle.verdicts.specs.Verdict.{LowestIn}
 use Rattle.graphs.specs.Graph.{Graph, rules, source, target, Greatest}
-use Rattle.graphs.specs.Limits.{SoundGraph}
-use Rattle.graphs.proofs.Greatest.{root_has_no_rule}
 use Rattle.claims.specs.Claim.{RightAt}
 use Rattle.claims.specs.Parts.Verdicts.{RuleKept, RuleMeets}
-use Rattle.claims.specs.Parts.Marks.{RulesMarked}
+use Rattle.claims.specs.Parts.Marks.{RootFree, RulesMarked}
 
 -- ---- what is marked at first
 
@@ -46,7 +44,7 @@ module _ (g : Graph) (delay time : ℕ → ℤ) where
   abbrev Wrong : ℕ → Type 0
   Wrong v = RightAt g delay time v → ⊥
 
-  module _ (sound : SoundGraph g) (root : time 0 ≡ pos 0) (met₀ met : List Bool) (lowest : ℕ) (only-root : (v : ℕ) → get_or met₀ v false ≡ true → v ≡ 0) (at_root : get_or met₀ 0 false ≡ true) (m : RulesMarked g delay time met₀ (rules g) lowest met) where
+  module _ (root_free : RootFree g) (root : time 0 ≡ pos 0) (met₀ met : List Bool) (lowest : ℕ) (only-root : (v : ℕ) → get_or met₀ v false ≡ true → v ≡ 0) (at_root : get_or met₀ 0 false ≡ true) (m : RulesMarked g delay time met₀ (rules g) lowest met) where
     -- an event below the lowest broken one that is met is right
     right : (v : ℕ) → v < lowest → get_or met v false ≡ true → RightAt g delay time v
     right v low marked =
@@ -70,7 +68,7 @@ module _ (g : Graph) (delay time : ℕ → ℤ) where
         record {
           from_least = at.from_least i l refl;
           to_most = at.to_most i l refl;
-          in_time = (at.other (root_has_no_rule sound i l)).bound i l refl;
+          in_time = (at.other (root_free i l)).bound i l refl;
         }
 
     wrong : (v : ℕ) → v ≤ lowest → (v < lowest → get_or met v false ≡ false) → v < g.events → Wrong v

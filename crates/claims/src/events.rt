@@ -4,23 +4,23 @@ ghost use Rattle.verdicts.specs.Verdict.{LowestIn};
 ghost use Rattle.graphs.specs.Lists.{graph_in};
 ghost use Rattle.separation.specs.Promise.{at};
 ghost use Rattle.claims.specs.Claim.{RightAt};
-ghost use Rattle.claims.specs.Parts.Marks.{Listed, RulesMarked};
+ghost use Rattle.claims.specs.Parts.Marks.{RulesMarked};
 
+use crate::MAX_EVENTS;
+use crate::lists::ClaimLists;
 use crate::rules::{RuleVerdict, rule_verdict};
-use crate::{ClaimLists, MAX_EVENTS};
-use graphs::GraphLists;
 
 // How many events come before the lowest that a rule breaks: all of them, where none is broken. `met` is set at each event that a rule meets exactly.
-fn mark_rules(lists: &GraphLists<'_>, claim: &ClaimLists<'_>, met: &mut [bool]) -> usize
-    requires { Listed (graph_in lists.now) claim.now.times.now claim.now.delays.now × (length met.old ≡ 1024) }
-    ensures { RulesMarked (graph_in lists.now) (at claim.now.delays.now) (at claim.now.times.now) met.old (length lists.now.sources.now) result met.new }
+fn mark_rules(claim: &ClaimLists<'_>, met: &mut [bool]) -> usize
+    requires { length met.old ≡ 1024 }
+    ensures { RulesMarked (graph_in claim.now.lists) (at claim.now.delays.now) (at claim.now.times.now) met.old (length claim.now.lists.sources.now) result met.new }
 {
-    let mut unbroken = lists.events;
-    for i in 0..lists.sources.len() {
-        let verdict = rule_verdict(lists, claim, i);
+    let mut unbroken = claim.lists.events;
+    for i in 0..claim.lists.sources.len() {
+        let verdict = rule_verdict(claim, i);
         let RuleVerdict::Broken(event) = verdict else {
             if let RuleVerdict::Meets = verdict {
-                met[lists.targets[i]] = true;
+                met[claim.lists.targets[i]] = true;
             }
             continue;
         };
@@ -38,15 +38,14 @@ fn lowest_unmet(end: usize, met: &[bool]) -> Option<usize>
 }
 
 // The lowest event at which an execution's rule is broken.
-pub(crate) fn broken_event(lists: &GraphLists<'_>, claim: &ClaimLists<'_>) -> Option<usize>
-    requires { Listed (graph_in lists.now) claim.now.times.now claim.now.delays.now }
-    ensures { LowestIn lists.now.events (RightAt (graph_in lists.now) (at claim.now.delays.now) (at claim.now.times.now)) (λ v. RightAt (graph_in lists.now) (at claim.now.delays.now) (at claim.now.times.now) v → ⊥) result }
+pub(crate) fn broken_event(claim: &ClaimLists<'_>) -> Option<usize>
+    ensures { LowestIn claim.now.lists.events (RightAt (graph_in claim.now.lists) (at claim.now.delays.now) (at claim.now.times.now)) (λ v. RightAt (graph_in claim.now.lists) (at claim.now.delays.now) (at claim.now.times.now) v → ⊥) result }
 {
     if claim.times[0] != 0 {
         return Some(0);
     }
     let mut met = [false; MAX_EVENTS];
     met[0] = true;
-    let unbroken = mark_rules(lists, claim, &mut met);
-    lowest_unmet(unbroken, &met).or((unbroken < lists.events).then_some(unbroken))
+    let unbroken = mark_rules(claim, &mut met);
+    lowest_unmet(unbroken, &met).or((unbroken < claim.lists.events).then_some(unbroken))
 }

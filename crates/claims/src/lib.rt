@@ -10,9 +10,11 @@ ghost use Rattle.claims.specs.Claim.{Judged, numbers_of};
 ghost use Rattle.claims.specs.Parts.Verdicts.{NumberJudged};
 
 mod events;
+mod lists;
 mod rules;
 
 use crate::events::broken_event;
+use crate::lists::ClaimLists;
 use graphs::GraphLists;
 use refusals::Refusal;
 
@@ -31,6 +33,7 @@ pub enum Judgement {
 
 // A judgement in numbers, for callers that take no `Result`: `verdict` is 1, 2, 3, 4 in the order above, `event` the broken event. What a case has no value
 // for is 0.
+// Kept: the number of a refusal beside the values: the C interface.
 #[derive(Clone, Copy, Debug, PartialEq, Eq)]
 pub struct Numbers {
     pub refusal: usize,
@@ -70,13 +73,6 @@ impl From<Result<Judgement, Refusal>> for Numbers {
     }
 }
 
-// A claim's two lists: the times of the events and the delays of the rules.
-#[derive(Clone, Copy)]
-pub(crate) struct ClaimLists<'a> {
-    pub(crate) times: &'a [i64],
-    pub(crate) delays: &'a [i64],
-}
-
 // The judgement on a claim whose lists are an execution, in which s happens at `start` and t at `end`.
 fn judge_number(start: i64, end: i64, claimed: i64, maximum: i64) -> Judgement
     requires { Within 1023000000 start × Within 1023000000 end }
@@ -108,7 +104,12 @@ pub fn judge(
         return Err(Refusal::RulesOutside);
     }
     let found = separation::separation(lists, s, t)?;
-    if let Some(event) = broken_event(lists, &ClaimLists { times, delays }) {
+    let claim = ClaimLists {
+        lists: *lists,
+        times,
+        delays,
+    };
+    if let Some(event) = broken_event(&claim) {
         return Ok(Judgement::Broken(event));
     }
     Ok(judge_number(times[s], times[t], claimed, found.separation))

@@ -1,3 +1,2 @@
--- What the firmware's entry makes of a refusal, and that two results allowed to an entry are equal.
-pub mod EntryNumbers
+-- That two results allowed to an entry are equal.
 pub mod Unique

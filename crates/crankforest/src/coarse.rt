@@ -7,6 +7,7 @@ use graphs::GraphLists;
 use separation::Answer;
 
 // The separation of the graph whose delays are rounded outward to steps of q, and both depths.
+// Kept: an entry's parameters stay one by one, and its answer numbers: the C interface.
 #[unsafe(no_mangle)]
 pub extern "C" fn crankforest_coarse(
     n: usize,

@@ -7,6 +7,7 @@ use graphs::GraphLists;
 use separation::Answer;
 
 // The greatest t(t) − t(s) over all executions, and both depths.
+// Kept: an entry's parameters stay one by one, and its answer numbers: the C interface.
 #[unsafe(no_mangle)]
 pub extern "C" fn crankforest_exact(
     n: usize,

@@ -7,6 +7,7 @@ use deadlines::HardAnswer;
 use graphs::GraphLists;
 
 // The least and the greatest t(t) − t(s) over all times that meet every rule on its own, and both depths.
+// Kept: an entry's parameters stay one by one, and its answer numbers: the C interface.
 #[unsafe(no_mangle)]
 pub extern "C" fn crankforest_hard(
     n: usize,

@@ -8,6 +8,7 @@ use deadlines::HardAnswer;
 use graphs::GraphLists;
 
 // The same, and the schedule that has every event as late against s as hard deadlines allow, in the two lent lists.
+// Kept: an entry's parameters stay one by one, and its answer numbers: the C interface.
 #[unsafe(no_mangle)]
 pub extern "C" fn crankforest_hard_schedule(
     n: usize,

@@ -8,6 +8,7 @@ use graphs::GraphLists;
 
 // The judgement on a claimed gap between s and t with its two lists: verdict 1, it equals our maximum; 2, it lies below; 3, `event` is broken; 4, the number
 // differs.
+// Kept: an entry's parameters stay one by one, and its answer numbers: the C interface.
 #[unsafe(no_mangle)]
 pub extern "C" fn crankforest_judge(
     n: usize,

@@ -7,6 +7,7 @@ use graphs::GraphLists;
 use separation::Answer;
 
 // The same, and the whole latest schedule against s in the two lent lists.
+// Kept: an entry's parameters stay one by one, and its answer numbers: the C interface.
 #[unsafe(no_mangle)]
 pub extern "C" fn crankforest_schedule(
     n: usize,

@@ -34,6 +34,7 @@ use text::PairsAnswer;
 pub use unfolding::crankforest_unfold;
 
 // The greatest t(t) − t(s) over all executions of the text's graph, or −4,000,000,000 minus the refusal's number.
+// Kept: one number for both: the C interface.
 #[unsafe(no_mangle)]
 pub extern "C" fn crankforest_separation(text: &[u8], s: usize, t: usize) -> i64
     ensures { Entered text.now s t result }
@@ -45,6 +46,7 @@ pub extern "C" fn crankforest_separation(text: &[u8], s: usize, t: usize) -> i64
 }
 
 // What the pair program writes for a text, into a lent list of at least 131,072 places, and the number of bytes. A shorter list is refused.
+// Kept: an entry's parameters stay one by one, and its answer numbers: the C interface.
 #[unsafe(no_mangle)]
 pub extern "C" fn crankforest_pairs(
     text: &[u8],

@@ -47,7 +47,7 @@ use Rattle.deadlines.specs.Promise.{HardVerdict, HardNothing, HardAnswered}
 use Rattle.deadlines.specs.Parts.Rounds.{NumbersWithin}
 use Rattle.deadlines.specs.Parts.Lists.{GapAt}
 use Rattle.deadlines.specs.Parts.Gaps.{Starts, Settled, GapsFound, GapsAnswered, EndsAnswered}
-use Rattle.deadlines.proofs.Verdicts.{hard_verdict_unique, local_room, counts_refused, short_refused, hard_short, handed_on, refused_10, accepted_0}
+use Rattle.deadlines.proofs.Verdicts.{hard_verdict_unique, local_room, counts_refused, short_given, hard_short, handed_on, refused_10, accepted_0}
 
 -- ---- the start
 
@@ -158,4 +158,4 @@ module _ {g : Graph} {s t : ℕ} {Short : Type 0} where
   answered_counts r v = answered_refused r (counts_refused (some_number r) v)
 
   pub answered_short : CountsKept g → Short → HardAnswered g s t Short (hard_numbers (Err ShortList))
-  answered_short counts short = answered_refused ShortList (short_refused counts short)
+  answered_short counts short = answered_refused ShortList (short_given counts short)

@@ -3,7 +3,8 @@
 --     unreached_first         an event that isn't reached is refused with 6, whether there are hard times or not
 --     local_room              lists of 1,024 and 4,096 places are too short only where a count is outside
 --     counts_refused          a refusal of the counts is given
---     short_refused           so is a list that is too short, where the counts are kept
+--     short_refused           a list that is too short is refused
+--     short_given             and with 23, where the counts are kept
 --     handed_on               and a refusal of the analysis
 --     hard_short              "too short" may be said in two ways
 --     refused_10, accepted_0  where the analysis refuses nothing, 10 is given where there are no hard times, and nothing is refused where there are some
@@ -16,7 +17,7 @@ use native.Mathlib.Omega.{arith}
 use lib.IntN.{ℤ}
 use lib.ListN.{length}
 use Rattle.verdicts.specs.Verdict.{Check, check, AtZero, Lowest, FirstThen, FirstOf, given, passed}
-use Rattle.verdicts.proofs.Verdicts.{NoneApplies, at_zero, at_zero_unique, holds_not, one_verdict, then_unique, passed_all, then_more, then_more_after, front_given, none_accepted, more_alike, alike_refl, then_alike}
+use Rattle.verdicts.proofs.Verdicts.{NoneApplies, at_zero, at_zero_unique, holds_not, one_verdict, then_unique, passed_all, then_more, then_more_after, front_given, accepted_none, none_accepted, more_alike, alike_refl, then_alike}
 use Rattle.graphs.specs.Graph.{Graph}
 use Rattle.graphs.specs.Path.{HasCycle}
 use Rattle.graphs.specs.Limits.{CountsKept, EventGraph}
@@ -58,6 +59,11 @@ module _ {g : Graph} (times delays : List ℤ) (long : length times ≡ 1024) (w
       first : Type 0 → ℕ → ℕ → Type 0
       first Short = FirstThen (check 23 (AtZero Short) ∷ after) (PathVerdict g)
 
+pub short_refused : {g : Graph} {s t j p : ℕ} {Short : Type 0} → Short → Verdict g s t Short j p → j ≡ 0 → ⊥
+short_refused {g} {s} {t} {j} {p} {Short} short v e =
+    let (none, rest) = accepted_none (question_checks g s t Short) (PathVerdict g) (omega arith, (omega arith, (omega arith, (omega arith, (omega arith, (omega arith, tt)))))) j p e v in
+    none.1.1.0 0 (at_zero short)
+
 module _ {g : Graph} {s t : ℕ} where
   pub hard_short : {A B : Type 0} → (A → B) → (B → A) → {j p : ℕ} → HardVerdict g s t A j p → HardVerdict g s t B j p
   hard_short f h {j} {p} v = then_alike (short_alike f h) (hard_rest g) j p v
@@ -65,8 +71,8 @@ module _ {g : Graph} {s t : ℕ} where
   pub counts_refused : {Short : Type 0} {j p : ℕ} → (j ≡ 0 → ⊥) → FirstOf (count_checks 1024 4096 g) j p → HardVerdict g s t Short j p
   counts_refused some v = counts_given _ some v
 
-  pub short_refused : {Short : Type 0} → CountsKept g → Short → HardVerdict g s t Short 23 0
-  short_refused counts short = passed (events_miss counts) (passed (rules_miss counts) (given (at_zero short)))
+  pub short_given : {Short : Type 0} → CountsKept g → Short → HardVerdict g s t Short 23 0
+  short_given counts short = passed (events_miss counts) (passed (rules_miss counts) (given (at_zero short)))
 
   -- ---- after the analysis
 

@@ -96,6 +96,6 @@ pub fn hard_schedule(
     let mut latest = [0i64; MAX_EVENTS];
     let found = both_ends(lists, s, t, &mut latest)?;
     write_gaps(lists.events, 0, &latest, times);
-    write_differences(lists.sources, lists.targets, times, delays);
+    write_differences(lists, times, delays);
     Ok(found)
 }

@@ -4,7 +4,6 @@
 --     within_sum, within_difference, within_negation, within_wider     bounds of a sum, a difference, a negation, and a looser bound
 --     read_difference, difference_fits, difference_back     what the code forms of two words' bits is their difference; it fits, and its bits are read back
 --     read_sum, sum_fits, sum_back    the same of a sum
---     cast_fits, cast_back            a number that fits two widths is carried from one to the other
 -- Assumes nothing.
 use mathlib.Core.Path.{◌≡◌}
 use Prim.Native.Nat.{ℕ, ◌+◌, ◌<◌, ◌≤◌, ◌^◌}
@@ -70,9 +69,3 @@ pub sum_back : (w : Width) (a b : ℕ) (x y : ℤ) → a + b < 2 ^ hbits w → W
 sum_back w a b x y l h k = rw (read_sum w a b x y l h k) (read_back w (a + b) (x +ℤ y) l (within_sum h k))
 
 -- ---- a word of one width put into another: the number that it holds fits both
-
-pub cast_fits : (v w : Width) (b : ℕ) (x : ℤ) → b < 2 ^ hbits v → b < 2 ^ hbits w → Within b x → SFits w (to_z v (of_z v x))
-cast_fits v w b x l k h = rw (read_back v b x l h) (within_fits w b x k h)
-
-pub cast_back : (v w : Width) (b : ℕ) (x : ℤ) → b < 2 ^ hbits v → b < 2 ^ hbits w → Within b x → to_z w (of_z w (to_z v (of_z v x))) ≡ x
-cast_back v w b x l k h = rw (read_back v b x l h) (read_back w b x k h)

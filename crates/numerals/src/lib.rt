@@ -87,7 +87,8 @@ pub fn delay_field(text: &[u8], at: usize) -> Option<Parsed<i64>>
     })
 }
 
-// Kept: the writers give a place, and no Option. `Put` promises the place back where there is no room, and each caller has room, so it would unwrap them all.
+// Kept: numbers are written here and not by Display, which wants a `fmt::Write`: the bytes go into a lent list, and `NaturalPut` fixes each. The writers give a
+// place, and no Option. `Put` promises the place back where there is no room, and each caller has room, so it would unwrap them all.
 
 // One byte.
 pub fn put_byte(out: &mut [u8], at: usize, byte: u8) -> usize

@@ -28,7 +28,7 @@ use Rattle.sets.specs.Family.{Covers, Closes}
 use Rattle.sets.specs.Held.{pairs_of}
 use Rattle.sets.specs.Promise.{PrunedTo}
 use Rattle.sets.specs.declared.PrunedSet.{PrunedSet}
-use Rattle.sets.specs.declared.TooManyPairs.{TooManyPairs}
+use Rattle.sets.specs.declared.MorePairs.{MorePairs}
 use Rattle.sets.proofs.Covers.{closes_unique, prunes_closes}
 use Rattle.sets.proofs.Promises.{pruning_closes, pruning_more}
 use Rattle.paths.specs.Cap.{CapOf, no_m, Caps}
@@ -69,8 +69,8 @@ module _ {g : Graph} {s t : ℕ} {cap : ℕ → Limit} {full : ℕ → List Pair
       (λ i h out. (solved.sets.each (target g i)).numbered.number_of) turn in
       (covers, λ T h. set_found (prunes_closes covers h))
 
-  pub pruning_found : {v room : ℕ} {C : List Pair} (r : Result PrunedSet TooManyPairs) → Covers C (PathPairs g cap t v) → PrunedTo C room r
-      → ((s : PrunedSet) → r ≡ Ok s → (pairs_of s ≡ full v) × (length (full v) ≤ room)) × ((e : TooManyPairs) → r ≡ Err e → room < length (full v))
+  pub pruning_found : {v room : ℕ} {C : List Pair} (r : Result PrunedSet MorePairs) → Covers C (PathPairs g cap t v) → PrunedTo C room r
+      → ((s : PrunedSet) → r ≡ Ok s → (pairs_of s ≡ full v) × (length (full v) ≤ room)) × ((e : MorePairs) → r ≡ Err e → room < length (full v))
   pruning_found {room = room} {C = C} r covers h = (
     λ s is.
         let (closes, short) = pruning_closes covers s (subst (PrunedTo C room) is h) in

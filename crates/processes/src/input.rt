@@ -19,8 +19,7 @@ fn outside_interval(process: &ProcessLists<'_>) -> Option<usize>
     let starts = outside_start(process.marks, process.start_leasts, process.start_mosts);
     match (delays, starts) {
         (Some(delay), Some(start)) => Some(delay.min(start)),
-        (Some(delay), None) => Some(delay),
-        (None, start) => start,
+        (delay, start) => delay.or(start),
     }
 }
 

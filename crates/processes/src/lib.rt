@@ -19,7 +19,7 @@ use refusals::Refusal;
 // A process graph as its caller lends it: how many process events it has, and seven lists with one entry a template. Nothing is assumed of it: it may break
 // every limit.
 // Kept: seven lists beside each other, and an offset mark that is a number: the C interface lends them so, and a mark that is neither 0 nor 1 is refusal 7.
-#[derive(Clone, Copy)]
+#[derive(Clone, Copy, Debug, PartialEq, Eq)]
 pub struct ProcessLists<'a> {
     pub events: usize,
     pub sources: &'a [usize],
@@ -47,6 +47,7 @@ pub struct Unfolding {
 }
 
 // An answer in numbers, for callers that take no `Result`. `refusal` is 0, or the refusal's number, with its place; refused, both counts are 0.
+// Kept: the number of a refusal beside the values: the C interface.
 #[derive(Clone, Copy, Debug, PartialEq, Eq)]
 pub struct Unfolded {
     pub refusal: usize,

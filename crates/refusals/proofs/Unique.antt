@@ -1,20 +1,22 @@
 -- The promises allow one answer.
 --     known_not_unknown, inside_not_outside       an entry has a fault or has none, not both
---     unknown_event_unique, outside_delay_unique  so has each of the two searches
+--     lowest_or_unique                            a search in which nothing is both good and bad has one number
+--     unknown_or_unique, outside_or_unique        so has each of the two searches, where a number is its answer
+--     unknown_event_unique, outside_delay_unique  and each has one answer
 --     interval_outside_unique                     so has the test of one interval
---     check_counts_unique                         the counts of a graph have one refusal
+--     check_counts_unique, counts_unique          the counts of a graph have one refusal, and it one number
 --     number_unique, place_unique                 a refusal has one number and one place
 --     limit_unique                                and a limit one bound of the delays
 --     same_refusal                                a refusal is its number and place
 --     same_result                                 so is a result, where two that are no refusal are equal
---     check_input_unique                          a question has one number and place
+--     check_input_unique, input_unique            a question has one refusal, and it one number and place
 -- Assumes nothing.
 use Rattle.std.proofs.Common.{Option, cond, eqb, Result, Ok, Err, sym, ap, ◌∙◌}
 use mathlib.Core.Path.{◌≡◌, refl}
 use mathlib.Core.Bool.{Bool, true, false}
 use mathlib.Core.Logic.{⊎_elim}
 use mathlib.Core.List.{List, [], ◌∷◌}
-use Prim.Native.Nat.{ℕ, min}
+use Prim.Native.Nat.{ℕ, ◌<◌, min}
 use native.Mathlib.Omega.{arith}
 use lib.IntN.{ℤ}
 use lib.ListN.{length}
@@ -22,7 +24,7 @@ use Rattle.graphs.specs.Graph.{Graph, graph_of}
 use Rattle.graphs.specs.Refusal.{BeyondDelays, count_checks, question_checks_to}
 use Rattle.graphs.proofs.Unique.{delays_kept}
 use Rattle.graphs.proofs.Refusals.{count_places, question_places}
-use Rattle.verdicts.specs.Verdict.{LowestIn}
+use Rattle.verdicts.specs.Verdict.{LowestOr, LowestIn, FirstOf}
 use Rattle.verdicts.proofs.Searches.{lowest_in_unique}
 use Rattle.verdicts.proofs.Verdicts.{one_verdict}
 use Rattle.refusals.specs.Numbers.{number_of, place_of, number_in, place_in, Refuses}
@@ -42,6 +44,26 @@ inside_not_outside {b} {d} {D} h o =
     {i = 0}
     (record { least_within = h.least_within; most_within = h.most_within; ordered = h.ordered })
     (record { is_rule = omega arith; outside = o })
+
+pub lowest_or_unique : {k : ℕ} {Good Bad : ℕ → Type 0} → ((i : ℕ) → Good i → Bad i → ⊥) → {p q : ℕ} → LowestOr k Good Bad p → LowestOr k Good Bad q → p ≡ q
+lowest_or_unique {k} apart {p} {q} a b =
+    let not_below : q < p → ⊥ = λ l. apart q (a.before q l) (b.bad (omega (arith, a.within))) in
+    let not_above : p < q → ⊥ = λ l. apart p (b.before p l) (a.bad (omega (arith, b.within))) in
+    omega arith
+
+module _ {n : ℕ} {ss ts : List ℕ} {p q : ℕ} where
+  pub unknown_or_unique :
+      LowestOr (min (length ss) (length ts)) (EndsKnown n ss ts) (EndUnknown n ss ts) p →
+      LowestOr (min (length ss) (length ts)) (EndsKnown n ss ts) (EndUnknown n ss ts) q →
+      p ≡ q
+  unknown_or_unique = lowest_or_unique (λ i. known_not_unknown)
+
+module _ (ds Ds : List ℤ) {p q : ℕ} where
+  pub outside_or_unique :
+      LowestOr (min (length ds) (length Ds)) (DelaysInside ds Ds) (DelaysOutside ds Ds) p →
+      LowestOr (min (length ds) (length Ds)) (DelaysInside ds Ds) (DelaysOutside ds Ds) q →
+      p ≡ q
+  outside_or_unique = lowest_or_unique (λ i. inside_not_outside)
 
 module _ (n : ℕ) (ss ts : List ℕ) {x y : Option ℕ} where
   pub unknown_event_unique :
@@ -139,15 +161,21 @@ same_result (Ok a) (Err q) e f same = absurd (some_number q (sym e))
 same_result (Err r) (Ok b) e f same = absurd (some_number r e)
 same_result (Err r) (Err q) e f same = ap Err (same_refusal r q e f)
 
+pub input_unique : {b : ℕ} {g : Graph} {s t i p j q : ℕ} → FirstOf (question_checks_to b g s t ⊥) i p → FirstOf (question_checks_to b g s t ⊥) j q → (i ≡ j) × (p ≡ q)
+input_unique {b} {g} {s} {t} v w = one_verdict (question_checks_to b g s t ⊥) (question_places g s t ⊥) _ _ _ _ v w
+
 pub check_input_unique : {b : ℕ} {g : Graph} {s t : ℕ} {x y : Result Unit Refusal} →
     Refuses (question_checks_to b g s t ⊥) x →
     Refuses (question_checks_to b g s t ⊥) y →
     x ≡ y
 check_input_unique {b} {g} {s} {t} {x} {y} v w =
-    let (numbers, places) = one_verdict (question_checks_to b g s t ⊥) (question_places g s t ⊥) _ _ _ _ v w in
+    let (numbers, places) = input_unique v w in
     same_result x y numbers places (λ _ _ _ _. refl)
 
 pub check_counts_unique : {top most : ℕ} {g : Graph} {x y : Result Unit Refusal} → Refuses (count_checks top most g) x → Refuses (count_checks top most g) y → x ≡ y
 check_counts_unique {top} {most} {g} {x} {y} v w =
     let (numbers, places) = one_verdict (count_checks top most g) (count_places g) _ _ _ _ v w in
     same_result x y numbers places (λ _ _ _ _. refl)
+
+pub counts_unique : {top most : ℕ} {g : Graph} {a b : ℕ} → FirstOf (count_checks top most g) a 0 → FirstOf (count_checks top most g) b 0 → a ≡ b
+counts_unique {top} {most} {g} v w = (one_verdict (count_checks top most g) (count_places g) _ _ _ _ v w).0

@@ -128,6 +128,7 @@ pub fn delays_beyond(bound: u32, least: i64, most: i64) -> bool
 fn beyond_delay(bound: u32, leasts: &[i64], mosts: &[i64]) -> Option<usize>
     ensures { LowestIn (min (length leasts.now) (length mosts.now)) (DelaysBounded bound leasts.now mosts.now) (DelaysBeyond bound leasts.now mosts.now) result }
 {
+    // Kept: tried as a zip with `position`; the proof did not close.
     for i in 0..leasts.len().min(mosts.len()) {
         if delays_beyond(bound, leasts[i], mosts[i]) {
             return Some(i);

@@ -6,7 +6,7 @@
 // No caller is trusted: every list, length and number gets an answer. The promises are in specs/Promise.antt.
 #![tactic(auto)]
 
-ghost use Rattle.std.specs.Prelude.{◌≡◌, true, false, ◌⊎◌, ℕ, ◌<◌, ◌≤◌, pos, length, get_or};
+ghost use Rattle.std.specs.Prelude.{◌≡◌, true, false, ◌⊎◌, ℕ, ◌<◌, ◌≤◌, pos, length, get_or, MatchOption};
 ghost use Rattle.integers.specs.Within.{Within};
 ghost use Rattle.sequences.specs.Filled.{Filled};
 ghost use Rattle.rounding.specs.Rounding.{Down, Up};
@@ -19,61 +19,83 @@ const MAX_STEP: usize = 1000;
 
 const MAX_DELAY: i64 = 1000000;
 
-// Whether q is 0 or above 1,000.
-fn step_outside(q: usize) -> bool
-    ensures yes { result ≡ true → StepOutside q q }
-    ensures no { result ≡ false → (1 ≤ q) × (q ≤ 1000) }
+// What bounds are rounded in steps of.
+#[derive(Clone, Copy)]
+struct Step {
+    ticks: usize,
+    ghost some: { 1 ≤ ticks },
+    ghost few: { ticks ≤ 1000 },
+}
+
+// The step of q ticks: none where q is 0 or above 1,000.
+fn step_of(q: usize) -> Option<Step>
+    ensures { MatchOption result (StepOutside q q) (λ step. step.ticks ≡ q) }
 {
-    q == 0 || q > MAX_STEP
+    if (1..=MAX_STEP).contains(&q) {
+        Some(Step { ticks: q })
+    } else {
+        None
+    }
 }
 
 // The multiple of `step` next to `x` on the side of zero: the division rounds toward zero.
-fn toward_zero(x: i64, step: usize) -> i64
-    requires { (1 ≤ step) × (step ≤ 1000) × Within 1000000 x }
-    ensures { Beside step x result }
+fn toward_zero(x: i64, step: Step) -> i64
+    requires { Within 1000000 x }
+    ensures { Beside step.ticks x result }
 {
     // Kept: no `div_euclid`. The project's own form for this place is floor and ceiling from a division that rounds toward zero.
-    let q = step as i64;
+    let q = step.ticks as i64;
     x / q * q
 }
 
 // The greatest multiple of `step` that is not above `x`. Below zero the one on the side of zero may be a step too high.
-fn down(x: i64, step: usize) -> i64
-    requires { (1 ≤ step) × (step ≤ 1000) × Within 1000000 x }
-    ensures { Down step x result × Within 1000999 result }
+fn down(x: i64, step: Step) -> i64
+    requires { Within 1000000 x }
+    ensures { Down step.ticks x result × Within 1000999 result }
 {
     let y = toward_zero(x, step);
-    if x < y { y - step as i64 } else { y }
+    if x < y { y - step.ticks as i64 } else { y }
 }
 
 // The least multiple of `step` that is not below `x`.
-fn up(x: i64, step: usize) -> i64
-    requires { (1 ≤ step) × (step ≤ 1000) × Within 1000000 x }
-    ensures { Up step x result × Within 1000999 result }
+fn up(x: i64, step: Step) -> i64
+    requires { Within 1000000 x }
+    ensures { Up step.ticks x result × Within 1000999 result }
 {
     -down(-x, step)
 }
 
-// Whether `step` is a step, and `x` lies where a delay may.
-fn roundable(x: i64, step: usize) -> bool
-    ensures yes { result ≡ true → Roundable step x }
-    ensures no { result ≡ false → Roundable step x → ⊥ }
+// The step of q ticks, where it is one and `x` lies where a delay may.
+fn step_for(x: i64, q: usize) -> Option<Step>
+    ensures { MatchOption result (Roundable q x → ⊥) (λ step. (step.ticks ≡ q) × Roundable q x) }
 {
-    !step_outside(step) && (-MAX_DELAY..=MAX_DELAY).contains(&x)
+    if (-MAX_DELAY..=MAX_DELAY).contains(&x) {
+        step_of(q)
+    } else {
+        None
+    }
 }
 
 // Where `x` goes down to in steps of `step`; a number or a step outside leaves `x` as it is.
+// Kept: a twin of `round_up`: both are public, and docs/PROMISES.md names both.
 pub fn round_down(x: i64, step: usize) -> i64
     ensures { WentDown step x result }
 {
-    if roundable(x, step) { down(x, step) } else { x }
+    match step_for(x, step) {
+        Some(step) => down(x, step),
+        None => x,
+    }
 }
 
 // Where `x` goes up to in steps of `step`; a number or a step outside leaves `x` as it is.
+// Kept: a twin of `round_down`: both are public, and docs/PROMISES.md names both.
 pub fn round_up(x: i64, step: usize) -> i64
     ensures { WentUp step x result }
 {
-    if roundable(x, step) { up(x, step) } else { x }
+    match step_for(x, step) {
+        Some(step) => up(x, step),
+        None => x,
+    }
 }
 
 // Whether a lent list of `low` or of `high` places is too short for so many delays.
@@ -85,12 +107,13 @@ fn too_short(delays: usize, low: usize, high: usize) -> bool
 }
 
 // Both bounds of each rule's interval, rounded outward.
-fn round_lists(step: usize, leasts: &[i64], mosts: &[i64], low: &mut [i64], high: &mut [i64])
-    requires in_bounds { (1 ≤ step) × (step ≤ 1000) × (length mosts.now ≡ length leasts.now) × (length leasts.now ≤ length low.old) × (length leasts.now ≤ length high.old) }
+fn round_lists(step: Step, leasts: &[i64], mosts: &[i64], low: &mut [i64], high: &mut [i64])
+    requires in_bounds { (length mosts.now ≡ length leasts.now) × (length leasts.now ≤ length low.old) × (length leasts.now ≤ length high.old) }
     requires inside { (i : ℕ) → i < length leasts.now → Within 1000000 (get_or leasts.now i (pos 0)) × Within 1000000 (get_or mosts.now i (pos 0)) }
-    ensures lows { Filled (pos 0) (length leasts.now) (λ i. Down step (get_or leasts.now i (pos 0))) low.old low.new }
-    ensures highs { Filled (pos 0) (length leasts.now) (λ i. Up step (get_or mosts.now i (pos 0))) high.old high.new }
+    ensures lows { Filled (pos 0) (length leasts.now) (λ i. Down step.ticks (get_or leasts.now i (pos 0))) low.old low.new }
+    ensures highs { Filled (pos 0) (length leasts.now) (λ i. Up step.ticks (get_or mosts.now i (pos 0))) high.old high.new }
 {
+    // Kept: tried as a zip; the proof did not close: after `iter_mut().zip(..)` no element of the list is known.
     for i in 0..leasts.len() {
         low[i] = down(leasts[i], step);
         high[i] = up(mosts[i], step);
@@ -116,9 +139,9 @@ pub fn round_delays(
     if let Some(entry) = refusals::outside_delay(leasts, mosts) {
         return Err(Refusal::DelayOutside(entry));
     }
-    if step_outside(q) {
+    let Some(step) = step_of(q) else {
         return Err(Refusal::StepOutside(q));
-    }
-    round_lists(q, leasts, mosts, low, high);
+    };
+    round_lists(step, leasts, mosts, low, high);
     Ok(())
 }

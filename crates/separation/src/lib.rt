@@ -34,6 +34,7 @@ pub struct Separated {
 }
 
 // An answer in numbers, for callers that take no `Result`. `refusal` is 0, or the refusal's number, with its place; refused, all values are 0.
+// Kept: the number of a refusal beside the values: the C interface.
 #[derive(Clone, Copy, Debug, PartialEq, Eq)]
 pub struct Answer {
     pub refusal: usize,
@@ -93,7 +94,7 @@ pub fn schedule(
     let mut latest = [0i32; MAX_EVENTS];
     let found = analysed(lists, MAX_DELAY, s, t, &mut latest)?;
     write_times(lists.events, &latest, times);
-    write_delays(lists.sources, lists.targets, lists.mosts, times, delays);
+    write_delays(lists, times, delays);
     Ok(found)
 }
 

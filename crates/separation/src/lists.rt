@@ -5,6 +5,8 @@ ghost use Rattle.executions.specs.Steps.{Lesser};
 ghost use Rattle.sequences.specs.Filled.{Filled};
 ghost use Rattle.separation.specs.Parts.Lists.{TimeAt, DelayAt, RuleTimed};
 
+use graphs::GraphLists;
+
 // x − y. It may pass 32 bits, so both are widened first.
 fn difference(x: i32, y: i32) -> i64
     requires { Within 2050048000 x × Within 2050048000 y }
@@ -20,6 +22,7 @@ pub(crate) fn write_times(n: usize, latest: &[i32], times: &mut [i64])
     ensures { Filled (pos 0) n (TimeAt latest.now) times.old times.new }
 {
     let root = latest[0];
+    // Kept: tried as a zip; the proof did not close: after `iter_mut().zip(..)` no element of the list is known.
     for v in 0..n {
         times[v] = difference(latest[v], root);
     }
@@ -34,20 +37,14 @@ fn capped(start: i64, end: i64, most: i64) -> i64
 }
 
 // The delay of each rule: the time between its ends, but not more than its most delay.
-pub(crate) fn write_delays(
-    sources: &[usize],
-    targets: &[usize],
-    mosts: &[i64],
-    times: &[i64],
-    delays: &mut [i64],
-)
-    requires lengths { (length targets.now ≡ length sources.now) × (length mosts.now ≡ length sources.now) × (length sources.now ≤ 4096) × (length sources.now ≤ length delays.old) }
-    requires timed { (i : ℕ) → i < length sources.now → RuleTimed sources.now targets.now mosts.now times.now i }
-    ensures { Filled (pos 0) (length sources.now) (DelayAt sources.now targets.now mosts.now times.now) delays.old delays.new }
+pub(crate) fn write_delays(lists: &GraphLists<'_>, times: &[i64], delays: &mut [i64])
+    requires lengths { (length lists.now.targets.now ≡ length lists.now.sources.now) × (length lists.now.mosts.now ≡ length lists.now.sources.now) × (length lists.now.sources.now ≤ 4096) × (length lists.now.sources.now ≤ length delays.old) }
+    requires timed { (i : ℕ) → i < length lists.now.sources.now → RuleTimed lists.now.sources.now lists.now.targets.now lists.now.mosts.now times.now i }
+    ensures { Filled (pos 0) (length lists.now.sources.now) (DelayAt lists.now.sources.now lists.now.targets.now lists.now.mosts.now times.now) delays.old delays.new }
 {
-    for i in 0..sources.len() {
-        let source = sources[i];
-        let target = targets[i];
-        delays[i] = capped(times[source], times[target], mosts[i]);
+    for i in 0..lists.sources.len() {
+        let start = times[lists.sources[i]];
+        let end = times[lists.targets[i]];
+        delays[i] = capped(start, end, lists.mosts[i]);
     }
 }

@@ -15,7 +15,7 @@ use Rattle.sets.specs.Set.{◌∈◌, pass_nothing}
 use Rattle.sets.specs.Held.{held_pair, pair_of, held, candidates_of}
 use Rattle.sets.specs.Parts.{Left, Chosen}
 use Rattle.sets.specs.Promise.{PrunedTo}
-use Rattle.sets.specs.declared.TooManyPairs.{TooManyPairs}
+use Rattle.sets.specs.declared.MorePairs.{MorePairs}
 use Rattle.sets.specs.declared.Pair.{Pair as HeldPair}
 use Rattle.sets.specs.declared.PrunedSet.{PrunedSet}
 use Rattle.sets.proofs.Insertion.{prune}
@@ -112,5 +112,5 @@ pub keeping_start : (C : List Pair) (room : ℕ) → Keeping C room (held pass_n
 keeping_start C room = record { kept = []; front = front_start C; fits = omega arith; holds = refl; latest = nothing_yet refl }
 
 -- the room is what the code computed it to be
-pub promised : {C : List Pair} {r : Result PrunedSet TooManyPairs} (room room' : ℕ) → room ≡ room' → PrunedTo C room r → PrunedTo C room' r
+pub promised : {C : List Pair} {r : Result PrunedSet MorePairs} (room room' : ℕ) → room ≡ room' → PrunedTo C room r → PrunedTo C room' r
 promised {C} {r} room room' e h = subst (λ (m : ℕ). PrunedTo C m r) e h

@@ -14,7 +14,7 @@ use Rattle.sets.specs.Set.{◌∈◌}
 use Rattle.sets.specs.Family.{Family, Covers, Closes}
 use Rattle.sets.specs.Held.{held, pairs_of}
 use Rattle.sets.specs.Promise.{ComposedTo, Valued, PrunedTo}
-use Rattle.sets.specs.declared.TooManyPairs.{TooManyPairs}
+use Rattle.sets.specs.declared.MorePairs.{MorePairs}
 use Rattle.sets.specs.declared.Outside.{Outside}
 use Rattle.sets.specs.declared.Pair.{Pair as HeldPair}
 use Rattle.sets.specs.declared.PrunedSet.{PrunedSet}
@@ -49,7 +49,7 @@ valued_unique T x (Err _) (Err _) _ _ = refl
 
 -- ---- a pruning
 
-pub pruned_to_unique : {C : List Pair} {room : ℕ} {r s : Result PrunedSet TooManyPairs} → PrunedTo C room r → PrunedTo C room s → r ≡ s
+pub pruned_to_unique : {C : List Pair} {room : ℕ} {r s : Result PrunedSet MorePairs} → PrunedTo C room r → PrunedTo C room s → r ≡ s
 pruned_to_unique {room = room} {r = r} {s = s} h k = by (dec_le (length h.left) room)
   where
     same : h.left ≡ k.left
@@ -72,7 +72,7 @@ module _ {C : List Pair} {P : Family} {room : ℕ} (covers : Covers C P) where
           rw is (prunes_closes covers h.prunes, l)
       by (no l) = let over = h.over (let m : room < length h.left = omega arith in m) in cc
 
-  pub pruning_more : (e : TooManyPairs) → PrunedTo C room (Err e) → (T : List Pair) × Closes T P × (room < length T)
+  pub pruning_more : (e : MorePairs) → PrunedTo C room (Err e) → (T : List Pair) × Closes T P × (room < length T)
   pruning_more e h = by (dec_le (length h.left) room)
     where
       by : Dec (length h.left ≤ room) → (T : List Pair) × Closes T P × (room < length T)

@@ -12,7 +12,7 @@ use Rattle.sets.specs.Limit.{Limit, number, unlimited}
 use Rattle.sets.specs.Pair.{Pair, compose}
 use Rattle.sets.specs.Set.{◌∈◌, SetValue, Prunes}
 use Rattle.sets.specs.Held.{held_pair, held}
-use Rattle.sets.specs.declared.TooManyPairs.{TooManyPairs}
+use Rattle.sets.specs.declared.MorePairs.{MorePairs}
 use Rattle.sets.specs.declared.Outside.{Outside}
 use Rattle.sets.specs.declared.Pair.{Pair as HeldPair}
 use Rattle.sets.specs.declared.PrunedSet.{PrunedSet}
@@ -39,7 +39,7 @@ Valued T x (Ok None) = T ≡ []
 Valued T x (Err _) = (p : Pair) × (p ∈ T) × (Summable x p → ⊥)
 
 -- request 7: "exactly if … the fully pruned set over all paths to the target has more than 64 pairs"
-pub record PrunedTo (C : List Pair) (room : ℕ) (r : Result PrunedSet TooManyPairs) : Type 0 where
+pub record PrunedTo (C : List Pair) (room : ℕ) (r : Result PrunedSet MorePairs) : Type 0 where
   pub left : List Pair
   pub prunes : Prunes C left
   pub whole : length left ≤ room → r ≡ Ok (held left)

@@ -13,6 +13,7 @@ ghost use Rattle.sets.specs.Promise.{ComposedTo, Valued, PrunedTo};
 ghost use Rattle.sets.specs.Parts.{NearChecked, NumbersSummed, LimitsSummed, PairValued, Left, Chosen};
 
 // A limit of a pair. In their order `Unlimited` is above every number.
+// Kept: no Option, whose order has None below every Some.
 #[derive(Clone, Copy, Debug, PartialEq, Eq, PartialOrd, Ord)]
 pub enum Limit {
     Number(i64),
@@ -40,7 +41,7 @@ pub struct Outside;
 
 // Pruning leaves more pairs than are allowed.
 #[derive(Clone, Copy, Debug, PartialEq, Eq)]
-pub struct TooManyPairs;
+pub struct MorePairs;
 
 // Two numbers within it have a sum of 64 bits.
 const BOUND: i64 = 4000000000000000000;
@@ -169,7 +170,7 @@ fn next_pair(candidates: &[Pair], last: Option<Pair>) -> Option<Pair>
 }
 
 // What pruning leaves of the candidates, if that is at most `most` pairs, and at most 64.
-pub fn prune(candidates: &[Pair], most: usize) -> Result<PrunedSet, TooManyPairs>
+pub fn prune(candidates: &[Pair], most: usize) -> Result<PrunedSet, MorePairs>
     ensures { PrunedTo (candidates_of candidates.now) (min most 64) result }
 {
     let room = most.min(64);
@@ -177,7 +178,7 @@ pub fn prune(candidates: &[Pair], most: usize) -> Result<PrunedSet, TooManyPairs
     let mut last = None;
     while let Some(pair) = next_pair(candidates, last) {
         if set.count >= room {
-            return Err(TooManyPairs);
+            return Err(MorePairs);
         }
         set.pairs[set.count] = pair;
         set.count += 1;

@@ -8,9 +8,10 @@
 -- Assumes nothing.
 use Rattle.std.proofs.Common.{Ok, Err}
 use mathlib.Core.Path.{◌≡◌, refl, sym, subst}
-use mathlib.Core.Logic.{◌⊎◌}
+use mathlib.Core.Logic.{◌⊎◌, inl, inr}
 use mathlib.Core.List.{List, [], ◌∷◌}
-use Prim.Native.Nat.{ℕ, ◌≤◌, ◌<◌}
+use Prim.Native.Nat.{ℕ, ◌≤◌, ◌<◌, min}
+use native.Mathlib.Decide.{dec_lt}
 use native.Mathlib.Omega.{arith}
 use lib.IntN.{ℤ}
 use lib.ListN.{length}
@@ -69,9 +70,28 @@ module _ (bs : List ℕ) (few : length bs ≤ 32768) where
     of_text : {A : List Rule → Type 0} → A the_rules → OfText bs A
     of_text h = record { rs = the_rules; text = text; holds = h }
 
-    module _ (ss ts : List ℕ) (ds Ds : List ℤ) where
+    module _ (ss ts : List ℕ) (ds Ds : List ℤ) {places : ℕ} (least : places ≡ min (min (min (length ss) (length ts)) (length ds)) (length Ds)) where
+      abbrev ShortOf : ℕ → Type 0
+      ShortOf m = (length ss < m) ⊎ ((length ts < m) ⊎ ((length ds < m) ⊎ (length Ds < m)))
+
+      -- a list is too short where the shortest one is
+      one_short : {m : ℕ} → places < m → ShortOf m
+      one_short {m} l = go (dec_lt (length ss) m) (dec_lt (length ts) m) (dec_lt (length ds) m)
+        where
+          go : Dec (length ss < m) → Dec (length ts < m) → Dec (length ds < m) → ShortOf m
+          go (yes s) t d = inl s
+          go (no s) (yes t) d = inr (inl t)
+          go (no s) (no t) (yes d) = inr (inr (inl d))
+          go (no s) (no t) (no d) = inr (inr (inr (omega (arith, least))))
+
+      shortest : {m : ℕ} → ShortOf m → places < m
+      shortest (inl l) = omega (arith, least)
+      shortest (inr (inl l)) = omega (arith, least)
+      shortest (inr (inr (inl l))) = omega (arith, least)
+      shortest (inr (inr (inr l))) = omega (arith, least)
+
       -- the counts of the reading are those of the text's rules
-      counts_alike : Alike (reading_checks a.events a.rules (length ss) (length ts) (length ds) (length Ds)) (check 21 (AtZero (OfText bs ManyEvents)) ∷ check 22 (AtZero (OfText bs ManyRows)) ∷ check 23 (AtZero (OfText bs (ShortForRules ss ts ds Ds))) ∷ [])
+      counts_alike : Alike (reading_checks a.events a.rules places) (check 21 (AtZero (OfText bs ManyEvents)) ∷ check 22 (AtZero (OfText bs ManyRows)) ∷ check 23 (AtZero (OfText bs (ShortForRules ss ts ds Ds))) ∷ [])
       counts_alike =
           more_alike
           (short_at (λ (l : 64 < a.events). of_text {A = ManyEvents} (subst (λ (x : ℕ). 64 < x) event_count l)))
@@ -80,20 +100,17 @@ module _ (bs : List ℕ) (few : length bs ≤ 32768) where
           (short_at (λ (l : 1024 < a.rules). of_text {A = ManyRows} (subst (λ (x : ℕ). 1024 < x) rule_count l)))
           (short_at (λ (z : OfText bs ManyRows). subst (λ (x : ℕ). 1024 < x) (sym rule_count) (text_of z)))
           (more_alike
-          (short_at (λ (l : ShortOf a.rules). of_text {A = ShortForRules ss ts ds Ds} (subst ShortOf rule_count l)))
-          (short_at (λ (z : OfText bs (ShortForRules ss ts ds Ds)). subst ShortOf (sym rule_count) (text_of z)))
+          (short_at (λ (l : places < a.rules). of_text {A = ShortForRules ss ts ds Ds} (subst ShortOf rule_count (one_short l))))
+          (short_at (λ (z : OfText bs (ShortForRules ss ts ds Ds)). shortest (subst ShortOf (sym rule_count) (text_of z))))
           none_alike))
-        where
-          ShortOf : ℕ → Type 0
-          ShortOf m = (length ss < m) ⊎ ((length ts < m) ⊎ ((length ds < m) ⊎ (length Ds < m)))
 
-      counted : {k p : ℕ} → FirstOf (reading_checks a.events a.rules (length ss) (length ts) (length ds) (length Ds)) k p → TextVerdict bs (ShortForRules ss ts ds Ds) Accepted k p
+      counted : {k p : ℕ} → FirstOf (reading_checks a.events a.rules places) k p → TextVerdict bs (ShortForRules ss ts ds Ds) Accepted k p
       counted {k} {p} v = passed not_long (passed not_broken (then_alike counts_alike Accepted k p v))
 
-      pub read_counted : (r : Refusal) → FirstOf (reading_checks a.events a.rules (length ss) (length ts) (length ds) (length Ds)) (number_of r) (place_of r) → ReadOff bs (ShortForRules ss ts ds Ds) (reading_numbers (Err r))
+      pub read_counted : (r : Refusal) → FirstOf (reading_checks a.events a.rules places) (number_of r) (place_of r) → ReadOff bs (ShortForRules ss ts ds Ds) (reading_numbers (Err r))
       read_counted r v = read_refused r (counted v)
 
-      module _ (v : FirstOf (reading_checks a.events a.rules (length ss) (length ts) (length ds) (length Ds)) 0 0) where
+      module _ (v : FirstOf (reading_checks a.events a.rules places) 0 0) where
         pub read_right : ReadOff bs (ShortForRules ss ts ds Ds) (reading_numbers (Ok a))
         read_right = record { verdict = counted v; found = s.right; no_events = λ n. absurd (n refl); no_rules = λ n. absurd (n refl) }
 
@@ -101,7 +118,7 @@ module _ (bs : List ℕ) (few : length bs ≤ 32768) where
         pub room : (rs : List Rule) × Text bs rs × (length rs ≤ length ss) × (length rs ≤ length ts) × (length rs ≤ length ds) × (length rs ≤ length Ds)
         room =
             let kept = counts_right refl v in
-            (the_rules, text, omega (arith, rule_count, kept.sources_long), omega (arith, rule_count, kept.targets_long), omega (arith, rule_count, kept.leasts_long), omega (arith, rule_count, kept.mosts_long))
+            (the_rules, text, omega (arith, rule_count, kept.long, least), omega (arith, rule_count, kept.long, least), omega (arith, rule_count, kept.long, least), omega (arith, rule_count, kept.long, least))
 
 -- ---- the lists
 

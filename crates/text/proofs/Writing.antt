@@ -3,7 +3,8 @@
 --     RulesGoing …          the rules before `at` are written, and what follows is the rest of the text
 --     Turn …                what a turn may count on: there is room
 --     writing_none          before the first turn
---     turn_kept             each turn may: the text is right, so one rule more is left
+--     row_there             what follows is a row, for the text is right
+--     turn_kept             each turn may: one rule more is left
 --     writing_more          a turn writes one rule
 --     writing_done          after the last turn all rules are written
 -- ss₀, ts₀, ds₀, Ds₀ are the lists before, ss, ts, ds, Ds now. Assumes nothing.
@@ -19,7 +20,7 @@ use mir.Val.{to_z, of_z}
 use Rattle.std.specs.Prelude.{Option, Some, None, IsSome}
 use Rattle.text.specs.Grammar.{Rule, header, Text}
 use Rattle.text.specs.Reading.{ListsHold}
-use Rattle.text.specs.Parts.Scanning.{rule_of, RowStanding, RowAt}
+use Rattle.text.specs.Parts.Scanning.{rule_of, RowStanding, RowGiven}
 use Rattle.text.specs.declared.rows.RuleRow.{RuleRow}
 use Rattle.text.proofs.RowLaws.{delay_back}
 use Rattle.text.proofs.Texts.{After, FirstRow, after_ends, after_rows, text_cut, rows_first, text_unique, text_not_broken}
@@ -60,8 +61,7 @@ pub record RulesGoing (bs : List ℕ) (ss₀ ts₀ : List ℕ) (ds₀ Ds₀ : Li
   pub mosts_room : length done + length left ≤ length Ds₀
   pub lists : ListsHold done ss₀ ts₀ ds₀ Ds₀ ss ts ds Ds
 
-pub record Turn (bs ss ts : List ℕ) (ds Ds : List ℤ) (i : ℕ) : Type 0 where
-  pub small : i ≤ length bs
+pub record Turn (ss ts : List ℕ) (ds Ds : List ℤ) (i : ℕ) : Type 0 where
   pub sources_place : i < length ss
   pub targets_place : i < length ts
   pub leasts_place : i < length ds
@@ -106,49 +106,55 @@ module _ {bs : List ℕ} {ss₀ ts₀ : List ℕ} {ds₀ Ds₀ : List ℤ} where
     writing_done few rs text = subst (λ (x : List Rule). ListsHold x ss₀ ts₀ ds₀ Ds₀ ss ts ds Ds) (text_unique (progress_done w.progress few) text) w.lists
 
     -- the text is right
-    pub row_there : (a : Option RuleRow) → at + 2 < length bs → RowAt bs (at + 2) a → IsSome a
-    row_there (Some r) room found = refl
-    row_there None room lacking = absurd (text_not_broken (w.progress.whole w.left w.after) (progress_broken w.progress room lacking.none))
+    pub row_there : {o : Option RuleRow} {next : ℕ} → RowGiven bs at o next → IsSome o
+    row_there {o = Some a} given = refl
+    row_there {o = None} given = absurd (text_not_broken (w.progress.whole w.left w.after) (progress_broken w.progress given.room given.row.none))
 
-    module _ (room : at + 2 < length bs) {o : Option RuleRow} {a : RuleRow} (read : RowAt bs (at + 2) o) (is : o ≡ Some a) where
+    -- the row given is a, and stands for place j
+    module _ {o : Option RuleRow} {a : RuleRow} {next j : ℕ} (read : RowGiven bs at o next) (is : o ≡ Some a) (same : j ≡ i) where
+      given : RowGiven bs at (Some a) next
+      given = subst (λ (x : Option RuleRow). RowGiven bs at x next) is read
+
       found : RowStanding bs (at + 2) a
-      found = subst (RowAt bs (at + 2)) is read
+      found = given.row
 
       first : FirstRow (rule_of a) (drop a.next bs) w.left
       first =
-          rows_first (after_rows w.after (ending w.progress room)) found.bytes found.row found.ends
+          rows_first (after_rows w.after (ending w.progress given.room)) found.bytes found.row found.ends
 
       more_left : length w.left ≡ suc (length first.others)
       more_left = ap length first.rules
 
-      pub turn_kept : Turn bs ss ts ds Ds i
+      place : j ≡ length w.done
+      place = same ∙ w.place
+
+      pub turn_kept : Turn ss ts ds Ds j
       turn_kept =
           record {
-            small = omega (arith, w.place, w.progress.fewer, w.progress.within);
-            sources_place = omega (arith, sources_length, w.sources_room, w.place, more_left);
-            targets_place = omega (arith, targets_length, w.targets_room, w.place, more_left);
-            leasts_place = omega (arith, leasts_length, w.leasts_room, w.place, more_left);
-            mosts_place = omega (arith, mosts_length, w.mosts_room, w.place, more_left);
+            sources_place = omega (arith, sources_length, w.sources_room, place, more_left);
+            targets_place = omega (arith, targets_length, w.targets_room, place, more_left);
+            leasts_place = omega (arith, leasts_length, w.leasts_room, place, more_left);
+            mosts_place = omega (arith, mosts_length, w.mosts_room, place, more_left);
           }
 
-      pub writing_more : RulesGoing bs ss₀ ts₀ ds₀ Ds₀ (set ss i a.source) (set ts i a.target) (set ds i (word a.least)) (set Ds i (word a.most)) a.next (i + 1)
-      writing_more =
+      pub writing_more : {k : ℕ} → k ≡ i + 1 → RulesGoing bs ss₀ ts₀ ds₀ Ds₀ (set ss j a.source) (set ts j a.target) (set ds j (word a.least)) (set Ds j (word a.most)) next k
+      writing_more {k} more =
           let more-done = one_more w.done (rule_of a) in
           record {
             done = w.done ++ (rule_of a ∷ []);
             left = first.others;
-            progress = progress_more w.progress room found.within found.row found.bytes found.ends (omega (arith, found.later));
-            after = first.after;
-            place = omega (arith, more-done, w.place);
+            progress = subst (λ (x : ℕ). RowsRead bs x (w.done ++ (rule_of a ∷ []))) (sym given.ends_at) (progress_more w.progress given.room found.within found.row found.bytes found.ends (omega (arith, found.later)));
+            after = subst (λ (x : ℕ). After (drop x bs) first.others) (sym given.ends_at) first.after;
+            place = omega (arith, more-done, w.place, more);
             sources_room = omega (arith, more-done, w.sources_room, more_left);
             targets_room = omega (arith, more-done, w.targets_room, more_left);
             leasts_room = omega (arith, more-done, w.leasts_room, more_left);
             mosts_room = omega (arith, more-done, w.mosts_room, more_left);
             lists =
                 record {
-                  sources_hold = ap (λ (k : ℕ). set ss k a.source) w.place ∙ put_more (λ (r : Rule). r.source) w.done (rule_of a) ss₀ ss (omega (arith, w.sources_room, more_left)) w.lists.sources_hold;
-                  targets_hold = ap (λ (k : ℕ). set ts k a.target) w.place ∙ put_more (λ (r : Rule). r.target) w.done (rule_of a) ts₀ ts (omega (arith, w.targets_room, more_left)) w.lists.targets_hold;
-                  leasts_hold = (λ j. set ds (w.place j) (delay_back found.row.least_delay j)) ∙ put_more (λ (r : Rule). r.least) w.done (rule_of a) ds₀ ds (omega (arith, w.leasts_room, more_left)) w.lists.leasts_hold;
-                  mosts_hold = (λ j. set Ds (w.place j) (delay_back found.row.most_delay j)) ∙ put_more (λ (r : Rule). r.most) w.done (rule_of a) Ds₀ Ds (omega (arith, w.mosts_room, more_left)) w.lists.mosts_hold;
+                  sources_hold = ap (λ (m : ℕ). set ss m a.source) place ∙ put_more (λ (r : Rule). r.source) w.done (rule_of a) ss₀ ss (omega (arith, w.sources_room, more_left)) w.lists.sources_hold;
+                  targets_hold = ap (λ (m : ℕ). set ts m a.target) place ∙ put_more (λ (r : Rule). r.target) w.done (rule_of a) ts₀ ts (omega (arith, w.targets_room, more_left)) w.lists.targets_hold;
+                  leasts_hold = (λ m. set ds (place m) (delay_back found.row.least_delay m)) ∙ put_more (λ (r : Rule). r.least) w.done (rule_of a) ds₀ ds (omega (arith, w.leasts_room, more_left)) w.lists.leasts_hold;
+                  mosts_hold = (λ m. set Ds (place m) (delay_back found.row.most_delay m)) ∙ put_more (λ (r : Rule). r.most) w.done (rule_of a) Ds₀ Ds (omega (arith, w.mosts_room, more_left)) w.lists.mosts_hold;
                 };
           }

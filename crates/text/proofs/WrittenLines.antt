@@ -1,5 +1,5 @@
 -- Laws of the lines written into a lent list.
---     refused_put                  the line of a refusal
+--     refused_put                  the line of a refusal, of which x is the number and y the place
 --     line_put                     the line of a pair
 --     RowGoing, row-…              the lines of the pairs with one `from`, while they are written
 --     TableGoing, table-…          all lines, while they are written
@@ -20,7 +20,7 @@ use Rattle.numerals.proofs.Appends.{appended_none, appended_more, appended_lengt
 use Rattle.text.proofs.WrittenNumbers.{NaturalIn, IntegerIn, natural_in, integer_in, word, word_back, minus_back}
 
 module _ {o : List ℕ} where
-  pub refused_put : (k p : ℕ) {m₁ m₂ m₃ m₄ m₅ : List ℕ} {a₁ a₂ a₃ a₄ a₅ : ℕ} →
+  put_refused : (k p : ℕ) {m₁ m₂ m₃ m₄ m₅ : List ℕ} {a₁ a₂ a₃ a₄ a₅ : ℕ} →
       k < 100 →
       p < 100000 →
       output_places ≤ length o →
@@ -30,7 +30,7 @@ module _ {o : List ℕ} where
       NaturalPut m₃ a₃ p m₄ a₄ →
       Put m₄ a₄ ending m₅ a₅ →
       (bs : List ℕ) × RefusedLine k p bs × Appended o 0 bs m₅ a₅
-  refused_put k p small small' room w₁ w₂ w₃ w₄ w₅ =
+  put_refused k p small small' room w₁ w₂ w₃ w₄ w₅ =
       let word = w₁.fits (omega arith) in
       let l₁ = put_length w₁ in
       let number = natural_in 2 (omega arith) (omega arith) (omega (arith, l₁, word.after)) w₂ in
@@ -44,6 +44,21 @@ module _ {o : List ℕ} where
         record { number_field = number.0; place_field = place.0; number_written = number.1; place_written = place.1; bytes = refl },
         appended_more word (appended_more number.3 (appended_more comma (appended_more place.3 end))),
       )
+
+  pub refused_put : {k p x y : ℕ} {m₁ m₂ m₃ m₄ m₅ : List ℕ} {a₁ a₂ a₃ a₄ a₅ : ℕ} →
+      k < 100 →
+      p < 100000 →
+      x ≡ k →
+      y ≡ p →
+      output_places ≤ length o →
+      Put o 0 (refused_word ++ (44 ∷ [])) m₁ a₁ →
+      NaturalPut m₁ a₁ x m₂ a₂ →
+      Put m₂ a₂ (44 ∷ []) m₃ a₃ →
+      NaturalPut m₃ a₃ y m₄ a₄ →
+      Put m₄ a₄ ending m₅ a₅ →
+      (bs : List ℕ) × RefusedLine k p bs × Appended o 0 bs m₅ a₅
+  refused_put {k} {p} small small' is_number is_place room w₁ w₂ w₃ w₄ w₅ =
+      put_refused k p small small' room w₁ (rw is_number at w₂) w₃ (rw is_place at w₄) w₅
 
 -- ---- the line of a pair
 

@@ -6,7 +6,9 @@
 // No caller is trusted. The grammar is in specs/Grammar.antt, the promises are in specs/Reading.antt, Answers.antt and Output.antt.
 #![tactic(auto)]
 
-ghost use Rattle.std.specs.Prelude.{◌≡◌, List, ℕ, ◌≤◌, length};
+ghost use Rattle.std.specs.Prelude.{◌≡◌, List, ℕ, ◌≤◌, length, take};
+ghost use Rattle.graphs.specs.Graph.{graph_of};
+ghost use Rattle.graphs.specs.Lists.{graph_in};
 ghost use Rattle.separation.specs.Numbers.{answer_numbers};
 ghost use Rattle.text.specs.Reading.{reading_numbers, ReadOff, RulesWritten, ShortForRules};
 ghost use Rattle.text.specs.Answers.{TextAnswered};
@@ -46,6 +48,7 @@ pub struct Reading {
 
 // The answer to a writing of the pairs in numbers, for callers that take no `Result`. `refusal` is 0, or 23 for a lent list that is too short, with its
 // place; `bytes` counts what was written. A text that is refused is none of its refusals: the line that says so is what was written.
+// Kept: the number of a refusal beside the values: the C interface.
 #[derive(Clone, Copy, Debug, PartialEq, Eq)]
 pub struct PairsAnswer {
     pub refusal: usize,
@@ -72,6 +75,7 @@ impl From<Result<usize, Refusal>> for PairsAnswer {
     }
 }
 
+// Kept: the four lists that are written stay four parameters. C lends four, and a struct of them would need ghost names at each call, and is no plainer.
 // The rules of a text, written into the four lent lists. Places beyond keep what they held; refused, all do.
 pub fn read_rules(
     text: &[u8],
@@ -87,56 +91,80 @@ pub fn read_rules(
         return Err(Refusal::BytesOutside);
     }
     let found = scan(text)?;
-    check_counts(
-        found,
-        sources.len(),
-        targets.len(),
-        leasts.len(),
-        mosts.len(),
-    )?;
+    let places = sources
+        .len()
+        .min(targets.len())
+        .min(leasts.len())
+        .min(mosts.len());
+    check_counts(found, places)?;
     write_rules(text, sources, targets, leasts, mosts);
     Ok(found)
+}
+
+// Room for the rules of a text.
+#[derive(Drop)]
+struct TextRules {
+    sources: [usize; MAX_RULES],
+    targets: [usize; MAX_RULES],
+    leasts: [i64; MAX_RULES],
+    mosts: [i64; MAX_RULES],
+}
+
+impl TextRules {
+    fn new() -> TextRules {
+        TextRules {
+            sources: [0; MAX_RULES],
+            targets: [0; MAX_RULES],
+            leasts: [0; MAX_RULES],
+            mosts: [0; MAX_RULES],
+        }
+    }
+
+    // The rules of a text, taken into this room.
+    fn read(&mut self, text: &[u8]) -> Result<Reading, Refusal>
+        ensures read_off { ReadOff text.now (ShortForRules self.old.sources self.old.targets self.old.leasts self.old.mosts) (reading_numbers result) }
+        ensures rules_written { RulesWritten text.now (reading_numbers result) self.old.sources self.old.targets self.old.leasts self.old.mosts self.new.sources self.new.targets self.new.leasts self.new.mosts }
+    {
+        read_rules(
+            text,
+            &mut self.sources,
+            &mut self.targets,
+            &mut self.leasts,
+            &mut self.mosts,
+        )
+    }
+
+    // The graph of what was read.
+    fn graph(&self, found: Reading) -> GraphLists<'_>
+        requires { found.rules ≤ 1024 }
+        ensures { graph_in result ≡ graph_of found.events (take found.rules self.now.sources) (take found.rules self.now.targets) (take found.rules self.now.leasts) (take found.rules self.now.mosts) }
+    {
+        GraphLists {
+            events: found.events,
+            sources: &self.sources[..found.rules],
+            targets: &self.targets[..found.rules],
+            leasts: &self.leasts[..found.rules],
+            mosts: &self.mosts[..found.rules],
+        }
+    }
 }
 
 // The greatest t(t) − t(s) over all executions of the text's graph, and the depths of s and t.
 pub fn text_separation(text: &[u8], s: usize, t: usize) -> Result<Separated, Refusal>
     ensures { TextAnswered text.now s t (answer_numbers result) }
 {
-    let mut sources = [0usize; MAX_RULES];
-    let mut targets = [0usize; MAX_RULES];
-    let mut leasts = [0i64; MAX_RULES];
-    let mut mosts = [0i64; MAX_RULES];
-    let found = read_rules(text, &mut sources, &mut targets, &mut leasts, &mut mosts)?;
-    let rules = found.rules;
-    let lists = GraphLists {
-        events: found.events,
-        sources: &sources[..rules],
-        targets: &targets[..rules],
-        leasts: &leasts[..rules],
-        mosts: &mosts[..rules],
-    };
-    separation::separation(&lists, s, t)
+    let mut rules = TextRules::new();
+    let found = rules.read(text)?;
+    separation::separation(&rules.graph(found), s, t)
 }
 
 // The table of all pairs of events of a text's graph, and how many events there are.
-fn tabulate(text: &[u8], entries: &mut [i64]) -> Result<usize, Refusal>
-    requires { length entries.old ≡ 4096 }
+fn tabulate(text: &[u8], entries: &mut [i64; ENTRIES]) -> Result<usize, Refusal>
     ensures { TableOfText text.now entries.new result }
 {
-    let mut sources = [0usize; MAX_RULES];
-    let mut targets = [0usize; MAX_RULES];
-    let mut leasts = [0i64; MAX_RULES];
-    let mut mosts = [0i64; MAX_RULES];
-    let found = read_rules(text, &mut sources, &mut targets, &mut leasts, &mut mosts)?;
-    let rules = found.rules;
-    let lists = GraphLists {
-        events: found.events,
-        sources: &sources[..rules],
-        targets: &targets[..rules],
-        leasts: &leasts[..rules],
-        mosts: &mosts[..rules],
-    };
-    table::fill_table(&lists, entries)?;
+    let mut rules = TextRules::new();
+    let found = rules.read(text)?;
+    table::fill_table(&rules.graph(found), entries)?;
     Ok(found.events)
 }
 

@@ -1,4 +1,6 @@
 // The lines that the pair program writes.
+// Kept: a list and a place in it as two parameters. The writers of `numerals` give the place back; a cursor over the list would hold a `&mut` and need ghost
+// names at each call, and is no plainer.
 ghost use Rattle.std.specs.Prelude.{◌≡◌, List, ◌++◌, ℕ, ◌+◌, ◌<◌, ◌≤◌, length};
 ghost use Rattle.integers.specs.Within.{Within};
 ghost use Rattle.graphs.specs.Graph.{Graph};
@@ -9,6 +11,7 @@ ghost use Rattle.text.specs.Output.{RefusedLine, Lines, pairs, pairs_from, pair_
 ghost use Rattle.table.specs.Table.{RowsFilled};
 ghost use Rattle.text.specs.Parts.TableLines.{LineOf, TableLines, SmallEntries};
 
+use crate::ENTRIES;
 use numerals::{put_byte, put_bytes, put_integer, put_natural};
 use refusals::Refusal;
 
@@ -47,8 +50,8 @@ fn put_pair(out: &mut [u8], at: usize, from: usize, to: usize, least: i64, most:
 
 // The lines of the pairs with this `from`: in at most 31 places each, 64 of them.
 #[tactic(auto, using(crate::proofs::WrittenLines::row_start, crate::proofs::WrittenLines::row_next))]
-fn put_pairs_from(out: &mut [u8], at: usize, n: usize, from: usize, table: &[i64]) -> usize
-    requires { (n ≤ 64) × (from < n) × (length table.now ≡ 4096) × (at + 1984 ≤ length out.old) × SmallEntries n table.now }
+fn put_pairs_from(out: &mut [u8], at: usize, n: usize, from: usize, table: &[i64; ENTRIES]) -> usize
+    requires { (n ≤ 64) × (from < n) × (at + 1984 ≤ length out.old) × SmallEntries n table.now }
     ensures { (result ≤ at + 1984) × ((bs : List ℕ) × TableLines n table.now (pairs_from n from) bs × Appended out.old at bs out.new result) }
 {
     let mut next = at;
@@ -62,8 +65,8 @@ fn put_pairs_from(out: &mut [u8], at: usize, n: usize, from: usize, table: &[i64
 
 // The header and the line of every pair.
 #[tactic(auto, using(crate::proofs::WrittenLines::table_start, crate::proofs::WrittenLines::table_next, crate::proofs::PairOrder::small_entries))]
-pub(crate) fn put_pairs(out: &mut [u8], n: usize, table: &[i64]) -> usize
-    requires in_bounds { (output_places ≤ length out.old) × (n ≤ 64) × (length table.now ≡ 4096) }
+pub(crate) fn put_pairs(out: &mut [u8], n: usize, table: &[i64; ENTRIES]) -> usize
+    requires in_bounds { (output_places ≤ length out.old) × (n ≤ 64) }
     requires graph { (g : Graph) × (g.events ≡ n) × EventGraph 1000000 g × RowsFilled g n table.now }
     ensures { (g : Graph) → g.events ≡ n → EventGraph 1000000 g → RowsFilled g n table.now → (bs : List ℕ) × Lines g (pairs n) bs × Appended out.old 0 (pair_header ++ (ending ++ bs)) out.new result }
 {

@@ -3,9 +3,9 @@ ghost use Rattle.std.specs.Prelude.{List, ◌<◌, ◌≤◌, length};
 ghost use Rattle.text.specs.Grammar.{Rule, Text};
 ghost use Rattle.text.specs.Reading.{ListsHold};
 
-use crate::rows::rule_row;
-use crate::scan::HEADER;
+use crate::rows::rule_rows;
 
+// Kept: four lists that are written side by side, as `read_rules` has them.
 // The rules of the text, in order.
 #[tactic(auto, using(crate::proofs::Writing::writing_none))]
 pub(crate) fn write_rules(
@@ -15,20 +15,14 @@ pub(crate) fn write_rules(
     leasts: &mut [i64],
     mosts: &mut [i64],
 )
-    requires small { length text.now ≤ 32768 }
-    requires text { (rs : List Rule) × Text text.now rs × (length rs ≤ length sources.old) × (length rs ≤ length targets.old) × (length rs ≤ length leasts.old) × (length rs ≤ length mosts.old) }
+    requires { (rs : List Rule) × Text text.now rs × (length rs ≤ length sources.old) × (length rs ≤ length targets.old) × (length rs ≤ length leasts.old) × (length rs ≤ length mosts.old) }
     ensures { (rs : List Rule) → Text text.now rs → ListsHold rs sources.old targets.old leasts.old mosts.old sources.new targets.new leasts.new mosts.new }
 {
-    // Kept: each row says where the next begins, and one index serves four lists, so no `for` is plainer.
-    let mut at = HEADER.len();
-    let mut i = 0;
-    while at + 2 < text.len() {
-        let row = rule_row(text, at + 2).unwrap();
+    for (i, row) in rule_rows(text).enumerate() {
+        let row = row.unwrap();
         sources[i] = row.source;
         targets[i] = row.target;
         leasts[i] = row.least;
         mosts[i] = row.most;
-        i += 1;
-        at = row.next;
     }
 }

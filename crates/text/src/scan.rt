@@ -6,7 +6,7 @@ ghost use Rattle.text.specs.Parts.Scanning.{reading_checks, Scanned};
 ghost use Rattle.text.specs.Parts.Header.{HeaderFound};
 
 use crate::Reading;
-use crate::rows::{end_at, rule_row};
+use crate::rows::{HEADER, end_at, rule_rows};
 use refusals::Refusal;
 
 // What a text may have.
@@ -14,15 +14,9 @@ const MAX_EVENTS: usize = 64;
 
 const MAX_RULES: usize = 1024;
 
-// Refusal 21 for too many events, 22 for too many rules, 23 where a list of that many places is too short for them.
-pub(crate) fn check_counts(
-    found: Reading,
-    sources: usize,
-    targets: usize,
-    leasts: usize,
-    mosts: usize,
-) -> Result<(), Refusal>
-    ensures { Refuses (reading_checks found.events found.rules sources targets leasts mosts) result }
+// Refusal 21 for too many events, 22 for too many rules, 23 where the rules are more than the places of the lists for them.
+pub(crate) fn check_counts(found: Reading, places: usize) -> Result<(), Refusal>
+    ensures { Refuses (reading_checks found.events found.rules places) result }
 {
     if found.events > MAX_EVENTS {
         return Err(Refusal::EventsOutside);
@@ -30,15 +24,11 @@ pub(crate) fn check_counts(
     if found.rules > MAX_RULES {
         return Err(Refusal::RulesOutside);
     }
-    let places = sources.min(targets).min(leasts).min(mosts);
     if found.rules > places {
         return Err(Refusal::ShortList);
     }
     Ok(())
 }
-
-// The first line.
-pub(crate) const HEADER: &[u8] = b"source,target,least,most";
 
 // Whether the first line is the header.
 fn header_stands(text: &[u8]) -> bool
@@ -55,7 +45,7 @@ fn with_rule(events: usize, source: usize, target: usize) -> usize
     events.max(source + 1).max(target + 1)
 }
 
-// The whole text read once. A turn of the loop stands after a right row, and a row follows where more than its ending is left.
+// The whole text read once.
 #[tactic(auto, using(crate::proofs::Progress::counted_none, crate::proofs::Progress::counted_more))]
 pub(crate) fn scan(text: &[u8]) -> Result<Reading, Refusal>
     requires { length text.now ≤ 32768 }
@@ -64,17 +54,14 @@ pub(crate) fn scan(text: &[u8]) -> Result<Reading, Refusal>
     if !header_stands(text) {
         return Err(Refusal::BrokenRow(1));
     }
-    // Kept: each row says where the next begins, so no `for` fits.
-    let mut at = HEADER.len();
     let mut rules = 0;
     let mut events = 1;
-    while at + 2 < text.len() {
-        let Some(row) = rule_row(text, at + 2) else {
+    for row in rule_rows(text) {
+        let Some(row) = row else {
             return Err(Refusal::BrokenRow(rules + 2));
         };
         events = with_rule(events, row.source, row.target);
         rules += 1;
-        at = row.next;
     }
     Ok(Reading { events, rules })
 }

@@ -1,11 +1,10 @@
 -- What the parts of the analysis hand to one another.
---     Room n rules heads nexts waiting order depth == the working lists have places enough, heads no more than 1,024, and the first and the third hold 0 everywhere
 --     Computed g s t us₀ us d       == the graph has no cycle and every event is reachable; us holds U, and d both depths
 --     PathsOutcome g s t us₀ us x   == x is an answer, and it and us hold what was computed; or x is a refusal, and us is as it was
 --     PathsAnalysed g s t us₀ us x  == x is refusal 5 or 6, or such an answer
 --     InputKept limit g s t         == none of the refusals 21, 22 and 2 to 4 applies
 -- Assumes nothing.
-use Rattle.std.specs.Prelude.{◌≡◌, Result, Ok, Err, List, ℕ, ◌<◌, ◌≤◌, ℤ, length}
+use Rattle.std.specs.Prelude.{◌≡◌, Result, Ok, Err, List, ℕ, ◌<◌, ℤ}
 use Rattle.verdicts.specs.Verdict.{FirstOf}
 use Rattle.graphs.specs.Graph.{Graph}
 use Rattle.graphs.specs.Path.{HasCycle, Reachable, Depth}
@@ -15,15 +14,6 @@ use Rattle.refusals.specs.Numbers.{number_in, place_in}
 use Rattle.refusals.specs.declared.Refusal.{Refusal}
 use Rattle.analysis.specs.declared.Depths.{Depths}
 use Rattle.analysis.specs.Parts.Latest.{LatestFound}
-use Rattle.analysis.specs.Parts.Rules.{Zeros}
-
-pub record Room (n rules : ℕ) (heads nexts waiting order depth : List ℕ) : Type 0 where
-  pub heads_zero : Zeros n heads
-  pub few_heads : length heads ≤ 1024
-  pub waiting_zero : Zeros n waiting
-  pub nexts_room : rules ≤ length nexts
-  pub order_room : n ≤ length order
-  pub depth_room : n ≤ length depth
 
 pub record Computed (g : Graph) (s t : ℕ) (us₀ us : List ℤ) (d : Depths) : Type 0 where
   pub acyclic : HasCycle g → ⊥

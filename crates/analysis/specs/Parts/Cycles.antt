@@ -3,6 +3,7 @@
 --     InSources ss ts event u     == u is the source of a rule into event
 --     Marked ss ts event …        == the sources of the rules into event are marked too, and listed after the others, and no more is
 --     LiesOn ss ts v, LiesOff ss ts v == in every graph with these rules event v lies on a cycle, or lies on none
+--     CycleAt ss ts v b           == b says which of the two
 -- ss and ts are the sources and the targets of the rules. Assumes nothing.
 use Rattle.std.specs.Prelude.{◌≡◌, ◌⊎◌, Bool, true, false, List, ℕ, ◌+◌, ◌<◌, ◌≤◌, ℤ, length, get_or}
 use Rattle.graphs.specs.Graph.{graph_of}
@@ -33,3 +34,7 @@ LiesOn ss ts v = (n : ℕ) (ds Ds : List ℤ) → OnCycle (graph_of n ss ts ds D
 
 abbrev pub LiesOff : List ℕ → List ℕ → ℕ → Type 0
 LiesOff ss ts v = (n : ℕ) (ds Ds : List ℤ) → OnCycle (graph_of n ss ts ds Ds) v → ⊥
+
+pub record CycleAt (ss ts : List ℕ) (v : ℕ) (b : Bool) : Type 0 where
+  pub on : b ≡ true → LiesOn ss ts v
+  pub off : b ≡ false → LiesOff ss ts v

@@ -1,16 +1,18 @@
 -- What the parts say to one another, said of a graph whose rules are chained. A word that ends in `In` is the word before it, of the lists of `c`.
---     ArrangedOr c order x    == x is no refusal, and order holds an order of the events; or x is refusal 5
+--     CycleRefused g r        == r is refusal 5, and its place is the lowest event on a cycle
+--     ArrangedOr c order x    == x is no refusal, and order holds an order of the events; or it is such a refusal
 -- Assumes nothing.
 use Rattle.std.specs.Prelude.{Result, Ok, Err, Bool, List, ℕ, ℤ}
-use Rattle.verdicts.specs.Verdict.{FirstOf}
+use Rattle.verdicts.specs.Verdict.{Lowest}
+use Rattle.graphs.specs.Graph.{Graph}
 use Rattle.graphs.specs.Lists.{graph_in}
-use Rattle.graphs.specs.Refusal.{path_checks}
-use Rattle.refusals.specs.Numbers.{number_of, place_of}
+use Rattle.graphs.specs.Path.{OnCycle}
 use Rattle.refusals.specs.declared.Refusal.{Refusal}
+use Rattle.refusals.specs.declared.Refusal.TheVariants.{Cycle}
 use Rattle.analysis.specs.declared.chains.Chains.{Chains}
 use Rattle.analysis.specs.Parts.Order.{Ordered}
 use Rattle.analysis.specs.Parts.Placing.{FirstReady, Serving}
-use Rattle.analysis.specs.Parts.Cycles.{Marked, LiesOn, LiesOff}
+use Rattle.analysis.specs.Parts.Cycles.{Marked, LiesOn, LiesOff, CycleAt}
 use Rattle.analysis.specs.Parts.Reach.{Arranged, SourceMarked, MarkOf, AllMarked}
 use Rattle.analysis.specs.Parts.Paths.{MReady, PassReady, PushReady}
 use Rattle.analysis.specs.Parts.Latest.{arrival_by, depth_by, Addable, Deepenable, Arrivals, GreatestArrival, Settled, LatestReady}
@@ -27,9 +29,13 @@ OrderedIn c order b = Ordered c.lists.events c.lists.sources.now c.lists.targets
 abbrev pub ArrangedIn : Chains → List ℕ → Type 0
 ArrangedIn c order = Arranged c.lists.events c.lists.sources.now c.lists.targets.now c.heads.now c.nexts.now order
 
+abbrev pub CycleRefused : Graph → Refusal → Type 0
+CycleRefused g (Cycle v) = Lowest (OnCycle g) v
+CycleRefused g _ = ⊥
+
 abbrev pub ArrangedOr : Chains → List ℕ → Result (Unit {0}) Refusal → Type 0
 ArrangedOr c order (Ok _) = ArrangedIn c order
-ArrangedOr c order (Err r) = FirstOf (path_checks (graph_in c.lists)) (number_of r) (place_of r)
+ArrangedOr c order (Err r) = CycleRefused (graph_in c.lists) r
 
 abbrev pub MarkedIn : Chains → ℕ → List Bool → List ℕ → ℕ → List Bool → List ℕ → ℕ → Type 0
 MarkedIn c event seen₀ list₀ end₀ seen list end = Marked c.lists.sources.now c.lists.targets.now event seen₀ list₀ end₀ seen list end
@@ -39,6 +45,9 @@ LiesOnIn c v = LiesOn c.lists.sources.now c.lists.targets.now v
 
 abbrev pub LiesOffIn : Chains → ℕ → Type 0
 LiesOffIn c v = LiesOff c.lists.sources.now c.lists.targets.now v
+
+abbrev pub CycleAtIn : Chains → ℕ → Bool → Type 0
+CycleAtIn c v b = CycleAt c.lists.sources.now c.lists.targets.now v b
 
 abbrev pub SourceMarkedIn : Chains → List ℕ → ℕ → Bool → Type 0
 SourceMarkedIn c marks v b = SourceMarked c.lists.sources.now c.lists.targets.now marks v b

@@ -3,13 +3,12 @@
 --     Placed n ss ts order tail rank  == the first `tail` places of order hold distinct events, event v at place rank v, targets first
 --     Progress … head e Due           == Placed, waiting counts the rules not served yet, and each due event with none is placed
 --     Serving … head                  == Progress where the first `head` places have been served and no others
---     FirstReady, ServeReady, OrderReady == what is asked before an event is placed, before one is served, and at the beginning
+--     FirstReady == what is asked before an event is placed
 -- rank v is 1024 or more for an event without a place. A rule is served when its target has been gone through at place rank(target) < head, or
 -- when that place is head and the walk through its rules, which goes down, stands at e ≤ i: rank(target) · 5000 + e ≤ head · 5000 + i says
 -- both, as rules are fewer than 5000. Assumes nothing.
 use Rattle.std.specs.Prelude.{◌≡◌, List, ℕ, ◌+◌, ◌*◌, ◌<◌, ◌≤◌, length, get_or}
 use Rattle.sequences.specs.Counted.{Counted}
-use Rattle.analysis.specs.Parts.Chains.{ChainLists}
 use Rattle.analysis.specs.Parts.Rules.{RulesKept, Tally}
 
 pub record Waits (ss ts : List ℕ) (rank : ℕ → ℕ) (head e v i : ℕ) : Type 0 where
@@ -45,12 +44,3 @@ pub record FirstReady (n : ℕ) (ss ts waiting order : List ℕ) : Type 0 where
   pub tally : Tally ss (length ss) waiting
   pub waiting_room : n ≤ length waiting
   pub order_room : n ≤ length order
-
-pub record ServeReady (n : ℕ) (ss ts heads nexts waiting order : List ℕ) (tail head : ℕ) : Type 0 where
-  pub kept : RulesKept n ss ts
-  pub chains : ChainLists n ts heads nexts
-  pub serving : Serving n ss ts waiting order tail head
-
-pub record OrderReady (n : ℕ) (ss ts heads nexts waiting order : List ℕ) : Type 0 where
-  pub first : FirstReady n ss ts waiting order
-  pub chains : ChainLists n ts heads nexts

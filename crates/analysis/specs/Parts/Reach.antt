@@ -2,7 +2,6 @@
 --     Arranged n ss ts heads nexts order == the rules are chained by target, and the events are in an order where targets come first
 --     Led n heads                        == every event but the root has a rule into it
 --     Marked g marks v                   == marks[v] says whether v is reachable: 0 where it isn't
---     MarkReady … v                      == what is asked before the rules into v are gone through
 --     SourceMarked ss ts marks v b       == b says whether the source of a rule into v is marked
 --     MarkOf ss ts marks v r             == r is the mark of v: 1 for the root and where such a source is marked, else 0
 --     AllMarked n ss ts marks            == each event is marked or not as it should be
@@ -27,12 +26,6 @@ Led n heads = (v : ℕ) → 0 < v → v < n → 0 < get_or heads v 0
 pub record Marked (g : Graph) (marks : List ℕ) (v : ℕ) : Type 0 where
   pub reaches : 0 < get_or marks v 0 → Reachable g v
   pub no_path : get_or marks v 0 ≡ 0 → Reachable g v → ⊥
-
-pub record MarkReady (n : ℕ) (ss ts heads nexts marks : List ℕ) (v : ℕ) : Type 0 where
-  pub kept : RulesKept n ss ts
-  pub chains : ChainLists n ts heads nexts
-  pub known : v < n
-  pub room : n ≤ length marks
 
 pub record SourceMarked (ss ts marks : List ℕ) (v : ℕ) (b : Bool) : Type 0 where
   pub some : b ≡ true → (i : ℕ) × (i < length ts) × (get_or ts i 0 ≡ v) × (0 < get_or marks (get_or ss i 0) 0)

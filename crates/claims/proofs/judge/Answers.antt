@@ -10,6 +10,7 @@ use mir.Val.{SFits}
 use mir.Facts.{to_z-of_z}
 use Rattle.graphs.specs.Lists.{graph_in}
 use Rattle.graphs.proofs.Limits.{sound_of}
+use Rattle.graphs.proofs.Greatest.{root_has_no_rule}
 use Rattle.refusals.proofs.Counts.{counts_of}
 use Rattle.executions.specs.Execution.{Execution}
 use Rattle.separation.specs.Promise.{at}
@@ -43,6 +44,11 @@ pub returns-in_err-found : goal.returns-in_err-found
 returns-in_err-found c =
     let p = err_from_is_err_and c.from_residual-in_err-found.result c.from_residual-in_err-found.ensures.1 in
     rw (p.1, p.2) (judged_handed (right (goal.at.returns-in_err-found c).Else-delays-lists) _ c.in_err-found.ensures.verdict)
+
+pub invariant_of-claim : goal.invariant_of-claim
+invariant_of-claim c =
+    let graph = (c.in_ok-found.ensures.found refl).graph in
+    record { sized = graph.sized; root_free = root_has_no_rule (sound_of graph); times_length = c.if-times-lists.false; delays_length = c.if-delays-lists.false }
 
 pub returns-in-Some : goal.returns-in-Some
 returns-in-Some c = judged_broken (right (goal.at.returns-in-Some c).Else-delays-lists) c.in_ok-found.ensures.verdict c.in-Some.ensures

@@ -1,17 +1,14 @@
 -- What the passes over the rules and the events of a claim say.
---     Listed g times delays     == g keeps every rule of 01, and the lists have exactly n and r places
+--     RootFree g                == no rule leads to the root
 --     RulesMarked g delay time met₀ k lowest met == of the first k rules: lowest is the lowest target of a rule that isn't kept, or n; met, which was met₀, is
 --                                  set at each event that one of them meets exactly
 -- Assumes nothing.
 use Rattle.std.specs.Prelude.{◌≡◌, Bool, true, false, ◌⊎◌, List, ℕ, ◌<◌, ◌≤◌, ℤ, length, get_or}
 use Rattle.graphs.specs.Graph.{Graph, rules, target}
-use Rattle.graphs.specs.Limits.{EventGraph}
 use Rattle.claims.specs.Parts.Verdicts.{RuleKept, RuleMeets}
 
-pub record Listed (g : Graph) (times delays : List ℤ) : Type 0 where
-  pub graph : EventGraph 1000000 g
-  pub times_length : length times ≡ g.events
-  pub delays_length : length delays ≡ rules g
+abbrev pub RootFree : Graph → Type 0
+RootFree g = (i : ℕ) → i < rules g → target g i ≡ 0 → ⊥
 
 pub record RulesMarked (g : Graph) (delay time : ℕ → ℤ) (met₀ : List Bool) (k lowest : ℕ) (met : List Bool) : Type 0 where
   pub same_length : length met ≡ length met₀

@@ -1,7 +1,10 @@
--- `round_delays` meets its contract: what `too_short`, `outside_delay`, `step_outside` and `round_lists` promise, put together. Assumes nothing.
+-- `round_delays` meets its contract: what `too_short`, `outside_delay`, `step_of` and `round_lists` promise, put together. Assumes nothing.
+use Rattle.std.proofs.Common.{Ok}
+use mathlib.Core.Path.{subst}
 use Prim.Native.Nat.{ℕ, ◌<◌}
 use lib.ListN.{length}
 use Rattle.refusals.specs.Faults.{DelaysInside}
+use Rattle.rounding.specs.Promise.{DelaysRounded}
 use Rattle.rounding.proofs.Promises.{Room, lowest_entry, all_inside, rounding_22, rounding_23, rounding_3, rounding_9, delays_refused, delays_rounded}
 use Rattle.rounding.proofs.round_delays.Goals as goal
 use Rattle.rounding.proofs.round_delays.Goals.{Else-too_short, In_default}
@@ -26,15 +29,16 @@ returns-in-Some c =
     let r = room (goal.at.returns-in-Some c).Else-too_short in
     delays_refused _ (rounding_3 c.args.low.now c.args.high.now r (lowest_entry c.args.leasts.now c.args.mosts.now r.as_many c.in-Some.ensures))
 
-pub returns-then-step_outside : goal.returns-then-step_outside
-returns-then-step_outside c =
-    let r = room (goal.at.returns-then-step_outside c).Else-too_short in
-    let all = inside (goal.at.returns-then-step_outside c).In_default in
-    delays_refused _ (rounding_9 c.args.low.now c.args.high.now r all (c.step_outside.ensures.yes c.if-step_outside.true))
+pub returns-in_default-step_of : goal.returns-in_default-step_of
+returns-in_default-step_of c =
+    let r = room (goal.at.returns-in_default-step_of c).Else-too_short in
+    let all = inside (goal.at.returns-in_default-step_of c).In_default in
+    delays_refused _ (rounding_9 c.args.low.now c.args.high.now r all c.in_default-step_of.ensures)
 
 pub returns : goal.returns
 returns c =
-    let step = c.step_outside.ensures.no c.if-step_outside.false in
+    let step = c.in-Some-step_of.step in
     let written = c.round_lists in
-    delays_rounded (room (goal.at.returns c).Else-too_short) (inside (goal.at.returns c).In_default) step.0 step.1
-    written.ensures.lows written.auto.low written.ensures.highs written.auto.high
+    let done = delays_rounded (room (goal.at.returns c).Else-too_short) (inside (goal.at.returns c).In_default) step.some step.few
+    written.ensures.lows written.auto.low written.ensures.highs written.auto.high in
+    subst (λ (q : ℕ). DelaysRounded q c.args.leasts.now c.args.mosts.now c.args.low.now c.args.high.now written.new.low written.new.high (Ok tt)) c.in-Some-step_of.ensures done

@@ -29,6 +29,6 @@ loop-i-preserved c =
     let inv = c.loop-i.invariant in
     let turn = c.loop-i-test.true in
     let near = c.requires.inside c.loop-i.i turn in (
-      written (Down c.args.step) _ _ _ _ _ _ (omega arith) inv.0 turn near.0 c.down.ensures,
-      written (Up c.args.step) _ _ _ _ _ _ (omega arith) inv.1 turn near.1 c.up.ensures,
+      written (Down c.args.step.ticks) _ _ _ _ _ _ (omega arith) inv.0 turn near.0 c.down.ensures,
+      written (Up c.args.step.ticks) _ _ _ _ _ _ (omega arith) inv.1 turn near.1 c.up.ensures,
     )

@@ -35,10 +35,10 @@ module _ (x : ℤ) (step : ℕ) (some : 1 ≤ step) (few : step ≤ 1000) (near 
   product-beside = rw (quotient-bits, step_held few, read_back w64 1001000 _ (lit< tt) multiple-within) (quotient_beside x step some)
 
 pub nonzero_div-result : goal.nonzero_div-result
-nonzero_div-result c = (c.requires.0, quotient_fits c.args.x c.args.step c.requires.0 c.requires.1 c.requires.2)
+nonzero_div-result c = (c.args.step.some, quotient_fits c.args.x c.args.step.ticks c.args.step.some c.args.step.few c.requires)
 
 pub overflow_mul-result : goal.overflow_mul-result
-overflow_mul-result c = product-fits c.args.x c.args.step c.requires.0 c.requires.1 c.requires.2
+overflow_mul-result c = product-fits c.args.x c.args.step.ticks c.args.step.some c.args.step.few c.requires
 
 pub returns : goal.returns
-returns c = product-beside c.args.x c.args.step c.requires.0 c.requires.1 c.requires.2
+returns c = product-beside c.args.x c.args.step.ticks c.args.step.some c.args.step.few c.requires

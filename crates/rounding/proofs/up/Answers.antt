@@ -20,4 +20,4 @@ held x step y few near found inside =
     rw (read_back w64 1000999 y (lit< tt) inside, read_back w64 1000999 (pos 0 -ℤ y) (lit< tt) within) (up, within)
 
 pub returns : goal.returns
-returns c = held c.args.x c.args.step c.down.result c.requires.1 c.requires.2 c.down.ensures.0 c.down.ensures.1
+returns c = held c.args.x c.args.step.ticks c.down.result c.args.step.few c.requires c.down.ensures.0 c.down.ensures.1

@@ -38,23 +38,12 @@ returns-in_err-found-clause-answered c =
     let p = err_from_is_err_and c.from_residual-in_err-found.result c.from_residual-in_err-found.ensures.1 in
     rw (p.1, p.2) (answered_short (λ none. absurd none) (roomy (goal.at.returns-in_err-found-clause-answered c).Else-delays-lists) (answered_analysed c.in_err-found.ensures))
 
-pub write_times-requires : goal.write_times-requires
-write_times-requires c =
-    let found = c.in_ok-found.ensures.found refl in
-    let counts = found.graph.sized.counts in
-    record { in_bounds = (counts.some_event, counts.few_events, c.analysed.auto.latest, c.if-times-lists.false); within = found.within }
-
-pub write_delays-requires : goal.write_delays-requires
-write_delays-requires c =
+pub write_delays-requires-clause-timed : goal.write_delays-requires-clause-timed
+write_delays-requires-clause-timed c = λ i h.
     let found = c.in_ok-found.ensures.found refl in
     let sized = found.graph.sized in
-    let counts = sized.counts in
-    record {
-      lengths = (counts.targets_match, counts.mosts_match, counts.few_rules, c.if-delays-lists.false);
-      timed = λ i h.
-          rule_timed c.analysed.new.latest {ss = c.args.lists.now.sources.now} {ts = c.args.lists.now.targets.now} {ds = c.args.lists.now.leasts.now}
-          (omega arith) (subst (λ (m : ℕ). c.args.lists.now.events ≤ m) (sym c.write_times.auto.times) c.if-times-lists.false) found.within c.write_times.ensures (sized.ends i h) (sized.delays i h);
-    }
+    rule_timed c.analysed.new.latest {ss = c.args.lists.now.sources.now} {ts = c.args.lists.now.targets.now} {ds = c.args.lists.now.leasts.now}
+    (omega arith) (subst (λ (m : ℕ). c.args.lists.now.events ≤ m) (sym c.write_times.auto.times) c.if-times-lists.false) found.within c.write_times.ensures (sized.ends i h) (sized.delays i h)
 
 pub returns-clause-answered : goal.returns-clause-answered
 returns-clause-answered c = answered_short (λ none. absurd none) (roomy (goal.at.returns-clause-answered c).Else-delays-lists) (answered_analysed c.in_ok-found.ensures)

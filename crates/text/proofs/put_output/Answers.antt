@@ -12,7 +12,7 @@ put_refusal-requires c =
 pub put_pairs-requires : goal.put_pairs-requires
 put_pairs-requires c =
     let t = c.in-Ok.ensures in
-    record { in_bounds = (c.requires, t.few, t.long); graph = (_, sym t.event_count, t.graph, t.filled) }
+    record { in_bounds = (c.requires, t.few); graph = (_, sym t.event_count, t.graph, t.filled) }
 
 pub returns-in-Ok : goal.returns-in-Ok
 returns-in-Ok c = table_put c.in-Ok.ensures c.put_pairs.ensures

@@ -1,4 +1,5 @@
 -- `read_rules` meets its contract: what `scan`, `check_counts` and `write_rules` promise, put together. Assumes nothing.
+use native.Mathlib.Omega.{arith}
 use Rattle.std.proofs.lemmas.Result.{err_from_is_err_and}
 use Rattle.text.proofs.Verdicts.{read_long, read_broken, read_counted, read_right, room}
 use Rattle.text.proofs.read_rules.Goals as goal
@@ -16,14 +17,14 @@ returns-in_err-check_counts-clause-read_off c =
     let a = c.args in
     let p = err_from_is_err_and c.from_residual-in_err-check_counts.result c.from_residual-in_err-check_counts.ensures.1 in
     rw (p.1, p.2)
-    (read_counted a.text.now c.if-text-gt-MAX_BYTES.false c.in_ok-found.ensures a.sources.now a.targets.now a.leasts.now a.mosts.now _ c.in_err-check_counts.ensures)
+    (read_counted a.text.now c.if-text-gt-MAX_BYTES.false c.in_ok-found.ensures a.sources.now a.targets.now a.leasts.now a.mosts.now (omega arith) _ c.in_err-check_counts.ensures)
 
-pub write_rules-requires-clause-text : goal.write_rules-requires-clause-text
-write_rules-requires-clause-text c =
+pub write_rules-requires : goal.write_rules-requires
+write_rules-requires c =
     let a = c.args in
-    room a.text.now c.if-text-gt-MAX_BYTES.false c.in_ok-found.ensures a.sources.now a.targets.now a.leasts.now a.mosts.now c.in_ok-check_counts.ensures
+    room a.text.now c.if-text-gt-MAX_BYTES.false c.in_ok-found.ensures a.sources.now a.targets.now a.leasts.now a.mosts.now (omega arith) c.in_ok-check_counts.ensures
 
 pub returns-clause-read_off : goal.returns-clause-read_off
 returns-clause-read_off c =
     let a = c.args in
-    read_right a.text.now c.if-text-gt-MAX_BYTES.false c.in_ok-found.ensures a.sources.now a.targets.now a.leasts.now a.mosts.now c.in_ok-check_counts.ensures
+    read_right a.text.now c.if-text-gt-MAX_BYTES.false c.in_ok-found.ensures a.sources.now a.targets.now a.leasts.now a.mosts.now (omega arith) c.in_ok-check_counts.ensures

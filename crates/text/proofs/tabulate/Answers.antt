@@ -1,9 +1,9 @@
 -- `tabulate` meets its contract: what `read_rules` and `fill_table` promise, put together. Assumes nothing.
 use mathlib.Core.Path.{refl}
-use Rattle.std.proofs.Common.{Err}
+use Rattle.std.proofs.Common.{arith, Err}
 use Rattle.std.proofs.lemmas.Result.{err_from_is_err_and}
 use Rattle.refusals.proofs.Unique.{some_number}
-use Rattle.text.proofs.Handed.{read_refused}
+use Rattle.text.proofs.Handed.{handed, read_refused}
 use Rattle.text.proofs.PairOutput.{table_verdict, tabled}
 use Rattle.text.proofs.tabulate.Goals as goal
 
@@ -11,15 +11,20 @@ pub returns-in_err-found : goal.returns-in_err-found
 returns-in_err-found c =
     let p = err_from_is_err_and c.from_residual.result c.from_residual.ensures.1 in
     let read = c.in_err-found.ensures in
-    rw (p.1, p.2) (read_refused read.rules_written read.read_off (refl {a = 1024}) (refl {a = 1024}) (refl {a = 1024}) (refl {a = 1024}) (some_number _))
+    rw (p.1, p.2) (read_refused read.rules_written read.read_off (omega arith) (omega arith) (omega arith) (omega arith) (some_number _))
 
 pub returns-in_err-fill_table : goal.returns-in_err-fill_table
 returns-in_err-fill_table c =
     let p = err_from_is_err_and c.from_residual-in_err-fill_table.result c.from_residual-in_err-fill_table.ensures.1 in
     let read = c.in_ok-found.ensures in
-    rw (p.1, p.2) (table_verdict read.rules_written read.read_off (Err c.in_err-fill_table.field-0.0) c.requires c.in_err-fill_table.ensures)
+    rw (p.1, p.2) (table_verdict read.rules_written read.read_off (Err c.in_err-fill_table.field-0.0) c.told-entries (rw c.graph.ensures at c.in_err-fill_table.ensures))
+
+pub graph-requires : goal.graph-requires
+graph-requires c =
+    let read = c.in_ok-found.ensures in
+    (handed read.rules_written read.read_off refl).few_rows
 
 pub returns : goal.returns
 returns c =
     let read = c.in_ok-found.ensures in
-    tabled read.rules_written read.read_off c.requires c.in_ok-fill_table.ensures
+    tabled read.rules_written read.read_off c.told-entries (rw c.graph.ensures at c.in_ok-fill_table.ensures)

@@ -20,11 +20,12 @@ pub returns : goal.returns
 returns c =
     let graph = event_graph (goal.at.returns c).In_default in
     let (latest, depths) = c.find_latest.ensures in
-    path_computed
+    rw (c.from.ensures, c.from-2.ensures)
+    (path_computed
     (record {
       acyclic = graph.acyclic;
       reachable = graph.reachable;
       latest = latest;
       depth_of_source = depths.each _ c.requires.in_bounds.0;
       depth_of_target = depths.each _ c.requires.in_bounds.1;
-    })
+    }))

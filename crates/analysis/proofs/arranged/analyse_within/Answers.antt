@@ -8,7 +8,7 @@ use Rattle.graphs.specs.Lists.{graph_in}
 use Rattle.graphs.specs.Limits.{Sized}
 use Rattle.refusals.specs.Question.{delay_limit}
 use Rattle.refusals.proofs.Question.{QuestionKept}
-use Rattle.analysis.proofs.Arranging.{sized_right, right_sized, path_refused}
+use Rattle.analysis.proofs.Arranging.{sized_right, right_sized, cycle_refused, path_refused}
 use Rattle.analysis.proofs.Promises.{analysed_input, analysed_paths, not_kept}
 use Rattle.analysis.proofs.arranged.analyse_within.Goals as goal
 use Rattle.analysis.proofs.arranged.analyse_within.Goals.{Start, Else-not-take_rules}
@@ -35,7 +35,7 @@ returns-then-not-take_rules g c = analysed_input (room (goal.at.returns-then-not
 pub returns-in_err-arrange : goal.returns-in_err-arrange
 returns-in_err-arrange g c =
     let p = err_from_is_err_and c.from_residual.result c.from_residual.ensures.1 in
-    rw (p.1, p.2) (analysed_paths _ (room (goal.at.returns-in_err-arrange g c).Start) (question (goal.at.returns-in_err-arrange g c).Else-not-take_rules) refl (path_refused c.in_err-arrange.ensures))
+    rw (p.1, p.2) (analysed_paths _ (room (goal.at.returns-in_err-arrange g c).Start) (question (goal.at.returns-in_err-arrange g c).Else-not-take_rules) refl (path_refused (cycle_refused _ c.in_err-arrange.ensures)))
 
 pub returns : goal.returns
 returns g c = analysed_paths _ (room (goal.at.returns g c).Start) (question (goal.at.returns g c).Else-not-take_rules) c.analyse_arranged.auto.latest c.analyse_arranged.ensures

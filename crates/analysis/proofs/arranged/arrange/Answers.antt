@@ -1,7 +1,7 @@
 -- `arrange` meets its contract: what `order_events` and `lowest_on_cycle` promise, put together. Assumes nothing.
 use Rattle.verdicts.specs.Verdict.{FoundAt}
 use Rattle.analysis.specs.Parts.InChains.{LiesOnIn, LiesOffIn}
-use Rattle.analysis.proofs.Arranging.{some_on, lowest_on, path_5}
+use Rattle.analysis.proofs.Arranging.{some_on, lowest_on}
 use Rattle.analysis.proofs.arranged.arrange.Goals as goal
 
 pub unwrap-event-requires : goal.unwrap-event-requires
@@ -10,4 +10,4 @@ unwrap-event-requires c = some_on c.args.chains.now.kept.sources_below (c.order_
 pub returns : goal.returns
 returns c =
     let found : FoundAt c.args.chains.now.lists.events (LiesOffIn c.args.chains.now) (LiesOnIn c.args.chains.now) c.unwrap-event.result = rw c.unwrap-event.ensures at c.lowest_on_cycle.ensures in
-    path_5 (lowest_on found _ _)
+    lowest_on found _ _

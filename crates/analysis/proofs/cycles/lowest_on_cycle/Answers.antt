@@ -1,12 +1,15 @@
-use native.Mathlib.Omega.{arith}
-use Rattle.verdicts.proofs.Searches.{before_more}
+-- `lowest_on_cycle` meets its contract: `find` gives the first of the events that lies on a cycle. Assumes nothing.
+use mathlib.Core.Path.{refl}
+use mathlib.Core.Bool.{true, false}
+use Rattle.std.proofs.Common.{rules}
+use Rattle.std.proofs.lemmas.Iterator.{first_from_Range}
+use Rattle.analysis.specs.Parts.InChains.{LiesOnIn, LiesOffIn, CycleAtIn}
+use Rattle.analysis.proofs.Searching.{lowest_in_range}
 use Rattle.analysis.proofs.cycles.lowest_on_cycle.Goals as goal
 
-pub loop-v-preserved : goal.loop-v-preserved
-loop-v-preserved c = before_more _ c.loop-v.v c.loop-v.invariant (c.on_cycle.ensures.no c.if-on_cycle.false)
-
-pub returns-then-on_cycle : goal.returns-then-on_cycle
-returns-then-on_cycle c = record { below = c.loop-v-test.true; before = c.loop-v.invariant; bad = c.on_cycle.ensures.yes c.if-on_cycle.true }
-
 pub returns : goal.returns
-returns c = λ u l. c.loop-v.invariant u (omega (arith, c.loop-v.auto.v-end, c.loop-v-test.false))
+returns c =
+    lowest_in_range _ _ _ _
+    (first_from_Range _ _ _ _ (LiesOnIn c.args.chains.now) (LiesOffIn c.args.chains.now) c.find.ensures.ran
+    (λ v q k. let is : CycleAtIn c.args.chains.now v true = search rules in is.on refl)
+    (λ v q k. let is : CycleAtIn c.args.chains.now v false = search rules in (search rules, is.off refl)))

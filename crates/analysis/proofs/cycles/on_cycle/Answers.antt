@@ -23,16 +23,16 @@ loop-at-init c =
 pub mark_sources-end-requires-in-loop-at-clause-in_bounds : goal.mark_sources-end-requires-in-loop-at-clause-in_bounds
 mark_sources-end-requires-in-loop-at-clause-in_bounds c =
     let (search, seen-long, list-long) = c.loop-at.invariant in
-    (event_below (goal.at.mark_sources-end-requires-in-loop-at-clause-in_bounds c).In-loop-at, omega (arith, c.args.chains.now.kept.few_events), omega arith, omega arith)
+    (rw c.from.ensures (event_below (goal.at.mark_sources-end-requires-in-loop-at-clause-in_bounds c).In-loop-at), omega (arith, c.args.chains.now.kept.few_events), omega arith, omega arith)
 
 pub loop-at-preserved : goal.loop-at-preserved
 loop-at-preserved c =
     let (search, seen-long, list-long) = c.loop-at.invariant in
     let marked = c.mark_sources-end-in-loop-at in (
-      searching_step _ _ c.args.chains.now.kept.targets_match _ _ _ _ _ search c.loop-at-test.true _ _ _ marked.ensures,
+      searching_step _ _ c.args.chains.now.kept.targets_match _ _ _ _ _ search c.loop-at-test.true _ _ _ (rw c.from.ensures at marked.ensures),
       marked.auto.seen ∙ seen-long,
       marked.auto.list ∙ list-long,
     )
 
-pub returns-clause-no : goal.returns-clause-no
-returns-clause-no c = (searching_end _ _ c.args.chains.now.kept.targets_match _ _ _ _ _ c.loop-at.invariant.0 c.loop-at-test.false).1
+pub returns : goal.returns
+returns c = searching_end _ _ c.args.chains.now.kept.targets_match _ _ _ _ _ c.loop-at.invariant.0 c.loop-at-test.false

@@ -16,7 +16,7 @@ turn c = walking_serves _ _ _ _ _ c.args.chains.now.kept c.args.chains.now.chain
 pub loop-rule-init : goal.loop-rule-init
 loop-rule-init c =
     rw c.into_iter-rule-iterator.ensures.into_iter_gives
-    (c.rules_into-rule-items.ensures.1, rw c.rules_into-rule-items.ensures.0 (walking_begins _ _ _ _ _ c.args.chains.now.kept c.args.chains.now.chained _ _ _ _ c.requires.serving c.requires.head_lt_tail))
+    (c.rules_into-rule-items.ensures.1, rw (c.rules_into-rule-items.ensures.0, c.from.ensures) (walking_begins _ _ _ _ _ c.args.chains.now.kept c.args.chains.now.chained _ _ _ _ c.requires.serving c.requires.head_lt_tail))
 
 pub overflow_sub-left : goal.overflow_sub-left
 overflow_sub-left c = (turn (goal.at.overflow_sub-left c).In-Some).source_waits

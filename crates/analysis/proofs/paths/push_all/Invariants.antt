@@ -7,5 +7,5 @@ use Rattle.analysis.specs.Parts.Paths.{MPass}
 use Rattle.analysis.specs.Parts.InChains.{PassReadyIn}
 use Rattle.analysis.proofs.paths.push_all.Given as goal
 
-abbrev pub invariant-loop-k : goal.invariant-loop-k
-invariant-loop-k l = (s : ℕ) (m₋ : List ℤ) (r : PassReadyIn l.chains l.order s m₋ l.initial.m) → MPass (graph_in l.chains.lists) s r.ready.arranged.rank l.k 5000 m₋ l.m
+abbrev pub invariant-loop-event : goal.invariant-loop-event
+invariant-loop-event l = (s : ℕ) (m₋ : List ℤ) (r : PassReadyIn l.chains l.order s m₋ l.initial.m) → MPass (graph_in l.chains.lists) s r.ready.arranged.rank l.event-index 5000 m₋ l.m

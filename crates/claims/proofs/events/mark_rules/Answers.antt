@@ -9,8 +9,8 @@ use Rattle.claims.proofs.events.mark_rules.Goals.{in-Meets, in_default-verdict}
 
 pub loop-i-preserved-in_default : goal.loop-i-preserved-in_default
 loop-i-preserved-in_default c =
-    let sized = c.requires.0.graph.sized in
-    let room : target (graph_in c.args.lists.now) c.loop-i.i < length c.loop-i.met = omega (arith, c.requires.1, (sized.ends c.loop-i.i c.loop-i-test.true).target_known, sized.counts.few_events) in
+    let sized = c.args.claim.now.sized in
+    let room : target (graph_in c.args.claim.now.lists) c.loop-i.i < length c.loop-i.met = omega (arith, c.requires, (sized.ends c.loop-i.i c.loop-i-test.true).target_known, sized.counts.few_events) in
     elim c.match-verdict-2.branch [
       | in-Meets w ↦ marked_met _ _ _ _ _ _ _ c.loop-i.invariant w.in-Meets.ensures room _ w.met-is
       | in_default-verdict w ↦ rw w.met-is (marked_early _ _ _ _ _ _ _ c.loop-i.invariant _ c.rule_verdict-verdict.ensures w.in_default-verdict.not-Meets c.in_default.not-Broken)

@@ -5,4 +5,4 @@ use Rattle.claims.specs.Parts.Marks.{RulesMarked}
 use Rattle.claims.proofs.events.mark_rules.Given as goal
 
 abbrev pub invariant-loop-i : goal.invariant-loop-i
-invariant-loop-i l = RulesMarked (graph_in l.lists) (at l.claim.delays.now) (at l.claim.times.now) l.initial.met l.i l.unbroken l.met
+invariant-loop-i l = RulesMarked (graph_in l.claim.lists) (at l.claim.delays.now) (at l.claim.times.now) l.initial.met l.i l.unbroken l.met

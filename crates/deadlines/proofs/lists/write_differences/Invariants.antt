@@ -6,4 +6,4 @@ use Rattle.deadlines.specs.Parts.Lists.{DifferenceAt}
 use Rattle.deadlines.proofs.lists.write_differences.Given as goal
 
 abbrev pub invariant-loop-i : goal.invariant-loop-i
-invariant-loop-i l = Filling (pos 0) (length l.sources) (DifferenceAt l.sources l.targets l.times) l.initial.delays l.i l.delays
+invariant-loop-i l = Filling (pos 0) (length l.lists.sources.now) (DifferenceAt l.lists.sources.now l.lists.targets.now l.times) l.initial.delays l.i l.delays

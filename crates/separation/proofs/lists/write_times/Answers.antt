@@ -7,7 +7,7 @@ use mir.Val.{to_z, of_z}
 use mir.ValLaws.{to_z-of_z}
 use Rattle.integers.specs.Within.{Within}
 use Rattle.integers.proofs.Word.{read_back}
-use Rattle.sequences.proofs.Filling.{filling_none, filling_more, filling_done}
+use Rattle.sequences.proofs.Filling.{filling_more}
 use Rattle.separation.proofs.lists.write_times.Goals as goal
 
 back : {x : ℤ} → Within 2050048000 x → Within 2050048000 (to_z w32 (of_z w32 x))
@@ -15,9 +15,6 @@ back {x} h = rw (read_back w32 2050048000 x (lit< tt) h) h
 
 read : (x y : ℤ) → Within 2050048000 x → Within 2050048000 y → to_z w32 (of_z w32 x) -ℤ to_z w32 (of_z w32 y) ≡ x -ℤ y
 read x y h k = rw (read_back w32 2050048000 x (lit< tt) h, read_back w32 2050048000 y (lit< tt) k)
-
-pub loop-v-init : goal.loop-v-init
-loop-v-init c = filling_none (pos 0) _ _ _
 
 pub difference-requires : goal.difference-requires
 difference-requires c =
@@ -29,9 +26,3 @@ loop-v-preserved c =
     let near = c.requires.within in
     filling_more (pos 0) _ _ _ c.loop-v.v _ _ (omega arith) c.loop-v.invariant c.loop-v-test.true
     (to_z-of_z w64 c.difference.result (record { sfits = c.difference.type_inv }) ∙ c.difference.ensures ∙ read _ _ (near _ c.loop-v-test.true) (near 0 (omega arith)))
-
-pub shape_of-times : goal.shape_of-times
-shape_of-times c = c.loop-v.invariant.same_length
-
-pub returns : goal.returns
-returns c = filling_done (pos 0) _ _ _ c.loop-v.v _ c.loop-v.invariant c.loop-v-test.false

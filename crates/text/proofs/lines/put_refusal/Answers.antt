@@ -1,8 +1,9 @@
 -- `put_refusal` meets its contract: five writings, one after the other. Assumes nothing.
 use Rattle.text.proofs.WrittenLines.{refused_put}
+use Rattle.std.proofs.Common.{rules}
 use Rattle.text.proofs.lines.put_refusal.Goals as goal
 
 pub returns : goal.returns
 returns c =
-    let pre = c.requires in
-    refused_put _ _ pre.1 pre.2 pre.0 c.put_bytes-word.ensures (rw c.number.ensures at c.put_natural-number.ensures) c.put_byte-comma.ensures (rw c.place.ensures at c.put_natural-last.ensures) c.put_bytes.ensures
+    let (room, number, place) = c.requires in
+    refused_put number place (search rules) (search rules) room c.put_bytes-word.ensures c.put_natural-number.ensures c.put_byte-comma.ensures c.put_natural-last.ensures c.put_bytes.ensures

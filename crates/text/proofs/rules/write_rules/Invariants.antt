@@ -1,11 +1,9 @@
 -- `write_rules` meets its contract: a loop that writes one place of each list a turn. Assumes nothing.
-use Prim.Native.Nat.{◌-◌}
-use lib.ListN.{length}
+use mathlib.Core.Path.{◌≡◌}
 use Rattle.text.proofs.Writing.{RulesGoing}
 use Rattle.text.proofs.rules.write_rules.Given as goal
 
-abbrev pub invariant-loop-at : goal.invariant-loop-at
-invariant-loop-at l = RulesGoing l.text l.initial.sources l.initial.targets l.initial.leasts l.initial.mosts l.sources l.targets l.leasts l.mosts l.at l.i
-
-abbrev pub decreases-loop-at : goal.decreases-loop-at
-decreases-loop-at l = length l.text - l.at
+abbrev pub invariant-loop-i : goal.invariant-loop-i
+invariant-loop-i l =
+    (l.i-iterator.iter.text.now ≡ l.text) ×
+    RulesGoing l.text l.initial.sources l.initial.targets l.initial.leasts l.initial.mosts l.sources l.targets l.leasts l.mosts l.i-iterator.iter.at l.i-iterator.count

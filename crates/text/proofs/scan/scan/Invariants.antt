@@ -1,11 +1,7 @@
 -- `scan` meets its contract: a turn stands after a right row, and counts the rules and their events. Assumes nothing.
-use Prim.Native.Nat.{◌-◌}
-use lib.ListN.{length}
+use mathlib.Core.Path.{◌≡◌}
 use Rattle.text.proofs.Progress.{RowsCounted}
 use Rattle.text.proofs.scan.scan.Given as goal
 
-abbrev pub invariant-loop-at : goal.invariant-loop-at
-invariant-loop-at l = RowsCounted l.text l.at l.rules l.events
-
-abbrev pub decreases-loop-at : goal.decreases-loop-at
-decreases-loop-at l = length l.text - l.at
+abbrev pub invariant-loop-row : goal.invariant-loop-row
+invariant-loop-row l = (l.row-iterator.text.now ≡ l.text) × RowsCounted l.text l.row-iterator.at l.rules l.events
