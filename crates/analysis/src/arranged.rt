@@ -98,6 +98,7 @@ pub(crate) fn analyse_within<const EVENTS: usize, const RULES: usize>(
     requires room { (lists.now.events ≤ EVENTS) × (EVENTS ≤ 1024) × (length lists.now.sources.now ≤ RULES) × (RULES ≤ 4096) }
     ensures { Analysed limit (graph_in lists.now) s t latest.old latest.new result }
 {
+    // Kept: working lists of fixed size, on the stack: the project has no heap.
     let mut heads = [0u16; EVENTS];
     let mut nexts = [0u16; RULES];
     let mut waiting = [0u16; EVENTS];

@@ -44,6 +44,7 @@ pub(crate) fn broken_event(claim: &ClaimLists<'_>) -> Option<usize>
     if claim.times[0] != 0 {
         return Some(0);
     }
+    // Kept: a list of fixed size, on the stack: the project has no heap.
     let mut met = [false; MAX_EVENTS];
     met[0] = true;
     let unbroken = mark_rules(claim, &mut met);

@@ -8,6 +8,7 @@ use crate::lists::ClaimLists;
 use std::cmp::Ordering;
 
 // What a rule says of its target: its delay is inside and the target is met exactly, or is later; or the target is broken.
+// Kept: three cases of which one has a value; docs/DECISIONS.md says why it has this form.
 #[derive(Clone, Copy, Debug, PartialEq, Eq)]
 pub(crate) enum RuleVerdict {
     Meets,
@@ -19,7 +20,7 @@ pub(crate) enum RuleVerdict {
 fn arrives(time: i64, delay: i64, end: i64) -> Ordering
     ensures { ArrivalJudged (time +ℤ delay) end result }
 {
-    // Kept: no sum in 128 bits: tried, and it took 12.9 µs for 4,096 rules where `checked_add` takes 4.9.
+    // Kept: no sum in 128 bits: it is no plainer, and was tried: it took 12.9 µs for 4,096 rules where `checked_add` takes 4.9.
     match time.checked_add(delay) {
         Some(sum) => sum.cmp(&end),
         None if delay < 0 => Ordering::Less,

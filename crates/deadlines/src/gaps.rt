@@ -22,6 +22,7 @@ fn latest_gaps(
 ) -> Result<Depths, Refusal>
     ensures { GapsAnswered (graph_in lists.now) s t latest.new result }
 {
+    // Kept: working lists of fixed size, on the stack: the project has no heap.
     let mut times = [0i64; MAX_EVENTS];
     let mut delays = [0i64; MAX_RULES];
     let ordinary = separation::schedule(lists, s, t, &mut times, &mut delays)?;
@@ -45,6 +46,7 @@ pub(crate) fn both_ends(
     ensures { EndsAnswered (graph_in lists.now) s t latest.new (hard_numbers result) }
 {
     let depths = latest_gaps(lists, s, t, latest)?;
+    // Kept: a list of fixed size, on the stack: the project has no heap.
     let mut against = [0i64; MAX_EVENTS];
     latest_gaps(lists, t, s, &mut against)?;
     Ok(HardSeparated {

@@ -73,6 +73,7 @@ impl From<Result<HardSeparated, Refusal>> for HardAnswer {
 pub fn hard_separation(lists: &GraphLists<'_>, s: usize, t: usize) -> Result<HardSeparated, Refusal>
     ensures { HardAnswered (graph_in lists.now) s t ⊥ (hard_numbers result) }
 {
+    // Kept: a list of fixed size, on the stack: the project has no heap.
     let mut latest = [0i64; MAX_EVENTS];
     both_ends(lists, s, t, &mut latest)
 }
@@ -93,6 +94,7 @@ pub fn hard_schedule(
     if times.len() < lists.events || delays.len() < lists.sources.len() {
         return Err(Refusal::ShortList);
     }
+    // Kept: a list of fixed size, on the stack: the project has no heap.
     let mut latest = [0i64; MAX_EVENTS];
     let found = both_ends(lists, s, t, &mut latest)?;
     write_gaps(lists.events, 0, &latest, times);

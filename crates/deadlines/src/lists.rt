@@ -7,6 +7,7 @@ ghost use Rattle.deadlines.specs.Parts.Lists.{GapAt, DifferenceAt, RuleTimed};
 use graphs::GraphLists;
 
 // The number of each event less that of s.
+// Kept: no twin of `table::copy_row`, which writes into a row; one function for both would take a place and a length more.
 pub(crate) fn write_gaps(n: usize, s: usize, numbers: &[i64], gaps: &mut [i64])
     requires in_bounds { (s < n) × (n ≤ length numbers.now) × (n ≤ length gaps.old) }
     requires numbers_within { NumbersWithin n numbers.now }

@@ -2,6 +2,7 @@
 #![tactic(auto)]
 
 // An event graph as its caller lends it: how many events it has, and four lists with one entry a rule. Nothing is assumed of it: it may break every limit.
+// Kept: four lists beside each other: the C interface lends them so, and lists that differ in length are a refusal.
 #[derive(Clone, Copy, Debug, PartialEq, Eq)]
 pub struct GraphLists<'a> {
     pub events: usize,

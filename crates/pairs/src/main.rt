@@ -23,6 +23,7 @@ fn fill(input: &mut impl Read, buffer: &mut [u8]) -> io::Result<usize>
 
 // Reads what is left of the input, up to 4 GB, so that whoever writes it can end.
 fn skip_rest(input: &mut impl Read) -> io::Result<()> {
+    // Kept: a list of fixed size, on the stack: the project has no heap.
     let mut chunk = [0u8; 65536];
     for _ in 0..65536 {
         if fill(input, &mut chunk)? < 65536 {
@@ -35,6 +36,7 @@ fn skip_rest(input: &mut impl Read) -> io::Result<()> {
 // One byte more than a text may have is enough to refuse it. The list for the output is as long as `text::write_pairs` asks.
 fn main(rt: HostRuntime) -> io::Result<()> {
     let mut reader = rt.stdin();
+    // Kept: two lists of fixed size, on the stack: the project has no heap.
     let mut input = [0u8; 32769];
     let length = fill(&mut reader, &mut input)?;
     if length > 32768 {

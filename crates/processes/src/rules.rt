@@ -11,7 +11,7 @@ use crate::{Event, Occurrence, ProcessLists};
 const ROOT: usize = 0;
 
 // A rule of the unfolding: the numbers of the two events, and the delays.
-#[derive(Clone, Copy)]
+#[derive(Clone, Copy, Debug, PartialEq, Eq)]
 struct Rule {
     source: usize,
     target: usize,

@@ -128,7 +128,7 @@ pub fn delays_beyond(bound: u32, least: i64, most: i64) -> bool
 fn beyond_delay(bound: u32, leasts: &[i64], mosts: &[i64]) -> Option<usize>
     ensures { LowestIn (min (length leasts.now) (length mosts.now)) (DelaysBounded bound leasts.now mosts.now) (DelaysBeyond bound leasts.now mosts.now) result }
 {
-    // Kept: tried as a zip with `position`; the proof did not close.
+    // Kept: tried as a zip with `position`, as in `unknown_event`; with the call in the closure the proof did not close.
     for i in 0..leasts.len().min(mosts.len()) {
         if delays_beyond(bound, leasts[i], mosts[i]) {
             return Some(i);
@@ -181,6 +181,7 @@ pub fn delay_limit(limit: usize) -> u32
 }
 
 // The first of the refusals 21, 22 and 2 to 4 that applies to a question about s and t. Delays may be from −limit to limit; no list is lent.
+// Kept: s and t stay two parameters, here and in each question: the papers name two events, and a struct of two numbers is no plainer.
 pub fn check_input(lists: &GraphLists<'_>, limit: usize, s: usize, t: usize) -> Result<(), Refusal>
     ensures { Refuses (question_checks_to (delay_limit limit) (graph_in lists.now) s t ⊥) result }
 {

@@ -99,6 +99,7 @@ pub fn round_up(x: i64, step: usize) -> i64
 }
 
 // Whether a lent list of `low` or of `high` places is too short for so many delays.
+// Kept: two comparisons with a name, so that `round_delays` reads as the rows of refusals do.
 fn too_short(delays: usize, low: usize, high: usize) -> bool
     ensures yes { result ≡ true → (low < delays) ⊎ (high < delays) }
     ensures no { result ≡ false → (delays ≤ low) × (delays ≤ high) }

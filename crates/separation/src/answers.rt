@@ -48,6 +48,7 @@ pub(crate) fn analysed_rounded(
         mosts: &high[..rules],
         ..*lists
     };
+    // Kept: a list of fixed size, on the stack: the project has no heap.
     let mut latest = [0i32; 1024];
     analysed(&rounded, MAX_ROUNDED, s, t, &mut latest)
 }

@@ -71,6 +71,7 @@ impl From<Result<Separated, Refusal>> for Answer {
 pub fn separation(lists: &GraphLists<'_>, s: usize, t: usize) -> Result<Separated, Refusal>
     ensures { Answered (graph_in lists.now) s t ⊥ (answer_numbers result) }
 {
+    // Kept: a list of fixed size, on the stack: the project has no heap.
     let mut latest = [0i32; MAX_EVENTS];
     analysed(lists, MAX_DELAY, s, t, &mut latest)
 }
@@ -91,6 +92,7 @@ pub fn schedule(
     if times.len() < lists.events || delays.len() < lists.sources.len() {
         return Err(Refusal::ShortList);
     }
+    // Kept: a list of fixed size, on the stack: the project has no heap.
     let mut latest = [0i32; MAX_EVENTS];
     let found = analysed(lists, MAX_DELAY, s, t, &mut latest)?;
     write_times(lists.events, &latest, times);
@@ -108,6 +110,7 @@ pub fn coarse_separation(
     ensures { CoarseAnswered (graph_in lists.now) q s t (answer_numbers result) }
 {
     refusals::check_input(lists, MAX_DELAY, s, t)?;
+    // Kept: two lists of fixed size, on the stack: the project has no heap.
     let mut low = [0i64; MAX_RULES];
     let mut high = [0i64; MAX_RULES];
     rounding::round_delays(q, lists.leasts, lists.mosts, &mut low, &mut high)?;

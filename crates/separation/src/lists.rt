@@ -8,6 +8,7 @@ ghost use Rattle.separation.specs.Parts.Lists.{TimeAt, DelayAt, RuleTimed};
 use graphs::GraphLists;
 
 // x − y. It may pass 32 bits, so both are widened first.
+// Kept: a name for two conversions and a difference; the library has no such difference, and it stands plainer than in the loop.
 fn difference(x: i32, y: i32) -> i64
     requires { Within 2050048000 x × Within 2050048000 y }
     ensures { result ≡ x -ℤ y }
@@ -16,6 +17,7 @@ fn difference(x: i32, y: i32) -> i64
 }
 
 // The time of each event, U(v) − U(root). `latest` holds U.
+// Kept: no twin of `deadlines::write_gaps` and `table::copy_row`: here numbers of 32 bits are widened, and one function for all would ask more of its reader.
 pub(crate) fn write_times(n: usize, latest: &[i32], times: &mut [i64])
     requires in_bounds { (1 ≤ n) × (n ≤ 1024) × (length latest.now ≡ 1024) × (n ≤ length times.old) }
     requires within { (v : ℕ) → v < n → Within 2050048000 (get_or latest.now v (pos 0)) }
@@ -29,6 +31,7 @@ pub(crate) fn write_times(n: usize, latest: &[i32], times: &mut [i64])
 }
 
 // The time from `start` to `end`, but not more than `most`.
+// Kept: a name for `min` of a difference, so that the loop says what it writes.
 fn capped(start: i64, end: i64, most: i64) -> i64
     requires { Within 4100096000 start × Within 4100096000 end }
     ensures { Lesser (end -ℤ start) most result }

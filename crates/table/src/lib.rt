@@ -19,6 +19,7 @@ const MAX_EVENTS: usize = 64;
 const MAX_RULES: usize = 1024;
 
 // Row `from` of the table: the time of each event after that of `from`. All other places keep what they held.
+// Kept: no twin of `deadlines::write_gaps`, which has no row; one function for both would take a place and a length more.
 fn copy_row(n: usize, from: usize, times: &[i64], table: &mut [i64])
     requires in_bounds { (from < n) × (n ≤ 64) × (length times.now ≡ 64) × (n * 64 ≤ length table.old) }
     requires within { (v : ℕ) → v < n → Within 1023000000 (get_or times.now v (pos 0)) }
@@ -37,6 +38,7 @@ fn fill_row(lists: &GraphLists<'_>, from: usize, table: &mut [i64]) -> Result<()
     requires { (from < lists.now.events) × (lists.now.events ≤ 64) × (length lists.now.sources.now ≤ 1024) × (lists.now.events * 64 ≤ length table.old) }
     ensures { RowAnswered (graph_in lists.now) from result table.old table.new }
 {
+    // Kept: two lists of fixed size, on the stack: the project has no heap.
     let mut times = [0i64; MAX_EVENTS];
     let mut delays = [0i64; MAX_RULES];
     separation::schedule(lists, from, from, &mut times, &mut delays)?;

@@ -75,7 +75,7 @@ impl From<Result<usize, Refusal>> for PairsAnswer {
     }
 }
 
-// Kept: the four lists that are written stay four parameters. C lends four, and a struct of them would need ghost names at each call, and is no plainer.
+// Kept: the four lists that are written stay four parameters. `RulesWritten` speaks of each, and a struct of them would need ghost names at each call, and is no plainer.
 // The rules of a text, written into the four lent lists. Places beyond keep what they held; refused, all do.
 pub fn read_rules(
     text: &[u8],
@@ -102,6 +102,7 @@ pub fn read_rules(
 }
 
 // Room for the rules of a text.
+// Kept: four arrays of fixed size, on the stack, with no heap; `GraphLists` lends on four lists.
 #[derive(Drop)]
 struct TextRules {
     sources: [usize; MAX_RULES],
@@ -173,6 +174,7 @@ fn put_output(text: &[u8], out: &mut [u8]) -> usize
     requires { output_places ≤ length out.old }
     ensures { (bytes : List ℕ) × Output text.now bytes × Appended out.old 0 bytes out.new result }
 {
+    // Kept: a list of fixed size, on the stack: the project has no heap.
     let mut entries = [0i64; ENTRIES];
     match tabulate(text, &mut entries) {
         Ok(events) => put_pairs(out, events, &entries),
