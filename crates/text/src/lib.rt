@@ -164,9 +164,9 @@ fn tabulate(text: &[u8], entries: &mut [i64; ENTRIES]) -> Result<usize, Refusal>
     ensures { TableOfText text.now entries.new result }
 {
     let mut rules = TextRules::new();
-    let found = rules.read(text)?;
-    table::fill_table(&rules.graph(found), entries)?;
-    Ok(found.events)
+    let reading = rules.read(text)?;
+    table::fill_table(&rules.graph(reading), entries)?;
+    Ok(reading.events)
 }
 
 // What the pair program writes for a text, into a lent list that is long enough; gives the number of bytes.
