@@ -20,6 +20,6 @@ returns c =
     (YieldsList-from_map_by _ pair_of (candidate_at ls fs ws gs)
     (YieldsList-at c.map-pairs.ensures.source (YieldsList-from_range 0 c.min-count.result c.min-count.result refl (omega arith)))
     c.map-pairs.ensures.closure
-    (λ x r q k. search rules))
+    (λ x r q k. (search rules, search rules)))
     ∙ sym (candidates_read ls fs ws gs c.min-count.result (omega arith)) in
     subst (λ (C : List Pair). Chosen C c.args.last c.selected.result) e chosen
