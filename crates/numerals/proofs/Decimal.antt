@@ -1,7 +1,8 @@
 -- Laws of numbers written in decimal.
 --     natural_one, natural_more           a number below ten is written as one digit; another as its tenth part is, and one digit more
---     natural_of                          every number is written in some way
+--     natural_of, integer_of              every number is written in some way
 --     one_digit, natural_length           a number below ten takes one place; how many any other takes
+--     front_of                            a number from ten on takes one place more than its tenth part
 --     natural_unique, integer_unique      a number is written in one way
 --     natural_places, integer_places      a small number takes few places
 -- The idea of all but the first two. A number of two digits or more has no leading zero, so all digits but the last write at least 1: they write the tenth part.
@@ -183,6 +184,13 @@ one_digit {bs} {x} l w = go (form bs w)
     go (short few e) = ap length e
     go (long many front e v) = absurd (let no : ⊥ = omega arith in no)
 
+pub front_of : {bs : List ℕ} {x : ℕ} → 10 ≤ x → Natural bs x → (front : List ℕ) × Natural front (x / 10) × (length bs ≡ length front + 1)
+front_of {bs} {x} l w = go (form bs w)
+  where
+    go : Form bs x → (front : List ℕ) × Natural front (x / 10) × (length bs ≡ length front + 1)
+    go (short few e) = absurd (let no : ⊥ = omega arith in no)
+    go (long many front e v) = (front, v, ap length e ∙ length-append front ((48 + x % 10) ∷ []))
+
 form_places : (places : ℕ) {bs : List ℕ} {x : ℕ} → 1 ≤ places → x < 10 ^ places → Form bs x → length bs ≤ places
 form_places zero l h f = absurd (not-suc-le-zero l)
 form_places (suc k) l h (short few e) = rw e (omega arith)
@@ -229,6 +237,10 @@ same_integer e (plain v) (plain w) = same_natural (pos_same _ _ e) v w
 same_integer e (plain v) (minus w) = absurd (not_both _ _ e)
 same_integer e (minus v) (plain w) = absurd (not_both _ _ (sym e))
 same_integer e (minus v) (minus w) = ap (λ (l : List ℕ). 45 ∷ l) (same_natural (negsuc_same _ _ e) v w)
+
+pub integer_of : (z : ℤ) → (bs : List ℕ) × Integer bs z × (1 ≤ length bs)
+integer_of (pos x) = let (bs, w) = natural_of x in (bs, plain w, w.some)
+integer_of (negsuc x) = let (bs, w) = natural_of (suc x) in (45 ∷ bs, minus w, omega arith)
 
 pub integer_unique : {bs cs : List ℕ} {z : ℤ} → Integer bs z → Integer cs z → bs ≡ cs
 integer_unique v w = same_integer refl v w

@@ -7,7 +7,7 @@
 // specs/Fields.antt and Appending.antt.
 #![tactic(auto)]
 
-ghost use Rattle.std.specs.Prelude.{◌≡◌, true, false, List, [], ◌∷◌, ℕ, ◌+◌, ◌<◌, ◌≤◌, length};
+ghost use Rattle.std.specs.Prelude.{◌≡◌, true, false, List, [], ◌∷◌, ℕ, ◌+◌, ◌<◌, ◌≤◌, length, take};
 ghost use Rattle.std.specs.List.{prefix_len};
 ghost use Rattle.std.specs.Char.{is_ascii_digit};
 ghost use Rattle.numerals.specs.Numbers.{Digits, value, Natural};
@@ -31,40 +31,46 @@ pub fn byte_at(text: &[u8], at: usize, byte: u8) -> bool
     text.get(at) == Some(&byte)
 }
 
-// How many digits stand at the front.
-fn leading_digits(text: &[u8]) -> usize
-    ensures { result ≡ prefix_len is_ascii_digit text.now }
-{
-    text.iter().take_while(|byte| byte.is_ascii_digit()).count()
+// The digits at the front of a list: how many, and the number that they write.
+#[derive(Clone, Copy, Debug, PartialEq, Eq)]
+struct Front {
+    digits: usize,
+    number: usize,
 }
 
-// The number that digits write: nineteen of them always fit.
-#[tactic(auto, using(crate::proofs::Taking::value_more, crate::proofs::Taking::digit_at, crate::proofs::Taking::front_below))]
-fn number(digits: &[u8]) -> usize
-    requires digits { Digits digits.now }
-    requires few { length digits.now ≤ 19 }
-    ensures { result ≡ value digits.now }
+// The digits at the front, gone through once: nineteen of them always fit.
+#[tactic(auto, using(crate::proofs::Taking::front_none, crate::proofs::Taking::front_more, crate::proofs::Taking::so_far_below, crate::proofs::Taking::front_ends, crate::proofs::Taking::front_whole))]
+fn front_digits(text: &[u8]) -> Front
+    requires { length text.now ≤ 19 }
+    ensures count { result.digits ≡ prefix_len is_ascii_digit text.now }
+    ensures written { result.number ≡ value (take result.digits text.now) }
 {
     let mut number = 0;
-    for digit in digits {
-        number = 10 * number + (*digit - b'0') as usize;
+    for (digits, byte) in text.iter().enumerate() {
+        if !byte.is_ascii_digit() {
+            return Front { digits, number };
+        }
+        number = 10 * number + usize::from(*byte - b'0');
     }
-    number
+    Front {
+        digits: text.len(),
+        number,
+    }
 }
 
-// The event number at `at`: the digits there, if they are one to seven.
-#[tactic(auto, using(crate::proofs::Taking::leading_digits, crate::proofs::Taking::none_read))]
+// The event number at `at`: the digits there, if they are one to seven. No byte beyond the eighth is looked at, however many digits follow.
+#[tactic(auto, using(crate::proofs::Taking::beyond))]
 pub fn event_field(text: &[u8], at: usize) -> Option<Parsed<usize>>
     ensures { NumberAt text.now at result }
 {
     let rest = text.get(at..)?;
-    let digits = leading_digits(rest);
-    if digits == 0 || digits > MOST_DIGITS {
+    let found = front_digits(&rest[..rest.len().min(MOST_DIGITS + 1)]);
+    if found.digits == 0 || found.digits > MOST_DIGITS {
         return None;
     }
     Some(Parsed {
-        value: number(&rest[..digits]),
-        next: at + digits,
+        value: found.number,
+        next: at + found.digits,
     })
 }
 

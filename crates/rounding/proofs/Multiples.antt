@@ -6,12 +6,13 @@
 --     quotient_beside            x / q × q, with the division that rounds toward zero, is a multiple less than q away from x
 --     beside_within              such a multiple lies little further out than x
 --     beside_down, step_down     from it, where x goes down to: itself, or where it lies above x one step less
+--     beside_up, step_up         and where x goes up to: itself, or where it lies below x one step more
 --     down_negated               where −x goes down to y, x goes up to −y
 -- The idea. Two multiples of q that are less than q apart are equal. Where x goes down to y and to z, both lie above x − q and not above x. The division that
 -- rounds toward zero gives a multiple less than q away from x, on the side of zero; where that is the wrong side, one more step of q mends it. Assumes nothing.
 use mathlib.Core.Path.{◌≡◌, refl, ap, sym, ◌∙◌}
 use Prim.Native.Nat.{ℕ, zero, suc, ◌+◌, ◌-◌, ◌≤◌}
-use lib.IntN.{ℤ, pos, ◌+ℤ◌, ◌-ℤ◌, ◌*ℤ◌, negsuc, neg_ℤ, pred_ℤ, pred_ℤ-*ℤ}
+use lib.IntN.{ℤ, pos, ◌+ℤ◌, ◌-ℤ◌, ◌*ℤ◌, negsuc, neg_ℤ, suc_ℤ, pred_ℤ, suc_ℤ-*ℤ, pred_ℤ-*ℤ}
 use lib.Signed.{◌≤ℤ◌, ◌<ℤ◌, quot_z}
 use Rattle.integers.specs.Within.{Within}
 use Rattle.integers.proofs.Integer.{linear, sum, difference, negation}
@@ -114,6 +115,21 @@ module _ {q : ℕ} {x y : ℤ} (a : Beside q x y) where
             };
         not_above = omega (linear, a.next_below, sum x (pos q), difference y (pos q));
         next_above = omega (linear, sum (y -ℤ pos q) (pos q), difference y (pos q));
+      }
+
+  pub beside_up : x ≤ℤ y → Up q x y
+  beside_up l = record { multiple = a.multiple; not_below = l; next_below = a.next_below }
+
+  pub step_up : y <ℤ x → Up q x (y +ℤ pos q)
+  step_up l =
+      record {
+        multiple =
+            record {
+              times = suc_ℤ a.multiple.times;
+              product = ap (λ (z : ℤ). z +ℤ pos q) a.multiple.product ∙ sym (suc_ℤ-*ℤ a.multiple.times (pos q));
+            };
+        not_below = omega (linear, a.next_above, sum y (pos q));
+        next_below = omega (linear, sum y (pos q), sum x (pos q));
       }
 
 negated_product : (t : ℤ) (q : ℕ) → neg_ℤ t *ℤ pos q ≡ pos 0 -ℤ (t *ℤ pos q)

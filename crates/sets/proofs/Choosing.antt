@@ -123,7 +123,7 @@ module _ {S : Type 0} {steps : S → Option HeldPair → S → Type 0} (p : Run 
       (e, subst (λ (xs : List HeldPair). Memᴰ e xs) (sym is) kept, sym same)
 
   pub chosen_is : {N : HeldPair → Type 0} (r : Option HeldPair) → MatchOption r (p.len ≡ 0) (λ m. AnyItem p (λ x. x ≡ m) × N m)
-      → ((m : HeldPair) → N m → AllItems p (λ x. Prior (pair_of m) (pair_of x))) → Chosen es last r
+      → ((m : HeldPair) → N m → AllItems p (λ x. Prior (pair_of m) (pair_of x))) → Chosen (candidates_of es) last r
   chosen_is None empty on = λ x m left. let (e, n, same) = stands x m left in let (k, l, at) = member_in p.items e e n in omega (arith, p.long)
   chosen_is (Some m) (any, none) on =
       let (n, left) = filter_from (left_test last) es m (subst (λ (xs : List HeldPair). Memᴰ m xs) is (run_has p m any)) in (

@@ -1,4 +1,4 @@
--- The turns of `prune`: the set so far is a beginning of what pruning leaves.
+-- The turns of `pruned`: the set so far is a beginning of what pruning leaves.
 --     Latest K last             last is the last pair of K, as it is held, if K has one
 --     Keeping C room s last     the set s holds a beginning of what pruning leaves of C, room for it is there, and last is the pair kept last
 --     keeping_start             nothing is kept
@@ -12,7 +12,7 @@ use mathlib.Core.List.Memᴰ.{head as here}
 use Rattle.std.proofs.Common.{◌≡◌, refl, sym, ap, subst, List, [], ◌∷◌, ◌++◌, map, length, ℕ, suc, ◌+◌, ◌-◌, ◌≤◌, ◌<◌, Option, Some, None, Result, Ok, Err, replicate, set, arith, length-append}
 use Rattle.sets.specs.Pair.{Pair, unit}
 use Rattle.sets.specs.Set.{◌∈◌, pass_nothing}
-use Rattle.sets.specs.Held.{held_pair, pair_of, held, candidates_of}
+use Rattle.sets.specs.Held.{held_pair, pair_of, held}
 use Rattle.sets.specs.Parts.{Left, Chosen}
 use Rattle.sets.specs.Promise.{PrunedTo}
 use Rattle.sets.specs.declared.MorePairs.{MorePairs}
@@ -58,12 +58,12 @@ filled K e l =
     let long : 64 - length (K ++ (pair_of e ∷ [])) ≡ 64 - suc (length K) = omega (arith, length-append K (pair_of e ∷ [])) in
     rw (rest, long) (fill_more (held_pair unit) e K (64 - suc (length K)))
 
-module _ (es : List HeldPair) {room : ℕ} {s : PrunedSet} {last : Option HeldPair} (k : Keeping (candidates_of es) room s last) where
+module _ (C : List Pair) {room : ℕ} {s : PrunedSet} {last : Option HeldPair} (k : Keeping C room s last) where
   counted : s.count ≡ length k.kept
   counted = ap (λ (x : PrunedSet). x.count) k.holds
 
   -- what is chosen is what is selected next
-  chosen_next : (e : HeldPair) → Chosen es last (Some e) → Next (candidates_of es) k.kept (pair_of e)
+  chosen_next : (e : HeldPair) → Chosen C last (Some e) → Next C k.kept (pair_of e)
   chosen_next e (among, left, best) =
       record {
         among = among;
@@ -73,8 +73,8 @@ module _ (es : List HeldPair) {room : ℕ} {s : PrunedSet} {last : Option HeldPa
       }
 
   pub keeping_more :
-      (e : HeldPair) → Chosen es last (Some e) → s.count < room → room ≤ 64
-      → Keeping (candidates_of es) room (record { pairs = set s.pairs s.count e; count = s.count + 1 }) (Some e)
+      (e : HeldPair) → Chosen C last (Some e) → s.count < room → room ≤ 64
+      → Keeping C room (record { pairs = set s.pairs s.count e; count = s.count + 1 }) (Some e)
   keeping_more e chosen less most =
       let more : set (held k.kept).pairs (length k.kept) e ≡ (held (k.kept ++ (pair_of e ∷ []))).pairs = filled k.kept e (omega (arith, counted)) in
       let long : length (k.kept ++ (pair_of e ∷ [])) ≡ length k.kept + 1 = omega (arith, length-append k.kept (pair_of e ∷ [])) in
@@ -87,7 +87,7 @@ module _ (es : List HeldPair) {room : ℕ} {s : PrunedSet} {last : Option HeldPa
       }
 
   -- nothing is left
-  pub keeping_end : Chosen es last None → PrunedTo (candidates_of es) room (Ok s)
+  pub keeping_end : Chosen C last None → PrunedTo C room (Ok s)
   keeping_end none =
       record {
         left = k.kept;
@@ -97,9 +97,9 @@ module _ (es : List HeldPair) {room : ℕ} {s : PrunedSet} {last : Option HeldPa
       }
 
   -- one more is left than there is room for
-  pub keeping_over : (e : HeldPair) → Chosen es last (Some e) → room ≤ s.count → PrunedTo (candidates_of es) room (Err (record {}))
+  pub keeping_over : (e : HeldPair) → Chosen C last (Some e) → room ≤ s.count → PrunedTo C room (Err (record {}))
   keeping_over e chosen full =
-      let (T, h) = prune (candidates_of es) in
+      let (T, h) = prune C in
       let longer : length (k.kept ++ (pair_of e ∷ [])) ≤ length T = front_length (front_step k.front (chosen_next e chosen)) h in
       record {
         left = T;

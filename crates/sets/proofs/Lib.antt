@@ -11,6 +11,7 @@ pub mod Points
 pub mod Holding
 pub mod Members
 pub mod Choosing
+pub mod Candidates
 pub mod Keeping
 pub mod Reaching
 pub mod Promises

@@ -1,4 +1,5 @@
 -- The promises allow one answer, and what an answer tells of a family that the candidates cover.
+--     limit_made_unique    a number and a flag stand for one limit, and it is held in one way
 --     held_unique          one set of pairs is held in one way
 --     composed_to_unique   two pairs composed have one answer
 --     valued_unique        a set's value at a number has one answer
@@ -8,19 +9,23 @@
 -- Assumes nothing.
 use mathlib.Core.List.Memᴰ
 use native.Mathlib.Decide.{dec_le}
-use Rattle.std.proofs.Common.{◌≡◌, refl, sym, ap, ◌∙◌, subst, List, [], ℕ, ◌<◌, ◌≤◌, ℤ, length, Option, Some, None, Result, Ok, Err, arith}
+use Rattle.std.proofs.Common.{◌≡◌, refl, sym, ap, ◌∙◌, subst, Bool, List, [], ℕ, ◌<◌, ◌≤◌, ℤ, length, Option, Some, None, Result, Ok, Err, arith}
 use Rattle.sets.specs.Pair.{Pair}
 use Rattle.sets.specs.Set.{◌∈◌}
 use Rattle.sets.specs.Family.{Family, Covers, Closes}
-use Rattle.sets.specs.Held.{held, pairs_of}
+use Rattle.sets.specs.Held.{limit, limit_of, held_limit, held, pairs_of}
 use Rattle.sets.specs.Promise.{ComposedTo, Valued, PrunedTo}
+use Rattle.sets.specs.declared.Limit.{Limit as HeldLimit}
 use Rattle.sets.specs.declared.MorePairs.{MorePairs}
 use Rattle.sets.specs.declared.Outside.{Outside}
 use Rattle.sets.specs.declared.Pair.{Pair as HeldPair}
 use Rattle.sets.specs.declared.PrunedSet.{PrunedSet}
 use Rattle.sets.proofs.Values.{set_value_unique}
 use Rattle.sets.proofs.Covers.{prunes_unique, prunes_closes}
-use Rattle.sets.proofs.Holding.{pairs_back}
+use Rattle.sets.proofs.Holding.{limit_held, pairs_back}
+
+pub limit_made_unique : (a : ℤ) (f : Bool) {r s : HeldLimit} → limit_of r ≡ limit a f → limit_of s ≡ limit a f → r ≡ s
+limit_made_unique a f {r} {s} h k = sym (limit_held r) ∙ ap held_limit (h ∙ sym k) ∙ limit_held s
 
 pub held_unique : (T : List Pair) {r s : PrunedSet} → r ≡ held T → s ≡ held T → r ≡ s
 held_unique T h k = h ∙ sym k

@@ -5,18 +5,22 @@
 --     PairValued p x r          == r is the value of p at x, or says that p can't be summed with x
 --     Prior p q                 == p may be selected before q: its w is the greater, or they have one w and its l is at least as great
 --     Left last p               == p is left to be selected: its l is above that of the pair kept last, if there is one
---     Chosen es last r          == r is the one of the candidates es that is selected next, or nothing, where none is left
+--     Chosen C last r           == r is the one of the candidates C that is selected next, or nothing, where none is left
+--     Selects C gives           == after each pair kept last `gives` gives the one of the candidates C that is selected next
+--     PrunedBy gives room r     == r is what pruning leaves of any candidates of which `gives` gives the one that is selected next
 -- Assumes nothing.
-use Rattle.std.specs.Prelude.{◌≡◌, ℤ, ◌+ℤ◌, List, Option, Some, None, Result, Ok, Err}
+use Rattle.std.specs.Prelude.{◌≡◌, ℕ, ℤ, ◌+ℤ◌, List, Option, Some, None, Result, Ok, Err}
 use Rattle.integers.specs.Within.{Within}
 use Rattle.sets.specs.Limit.{Limit, number, ◌≤ᴸ◌, ◌<ᴸ◌, ◌+ᴸ◌}
 use Rattle.sets.specs.Pair.{Pair, value}
 use Rattle.sets.specs.Set.{◌∈◌}
-use Rattle.sets.specs.Held.{limit_of, held_limit, pair_of, candidates_of}
-use Rattle.sets.specs.Promise.{Near, Summable}
+use Rattle.sets.specs.Held.{limit_of, held_limit, pair_of}
+use Rattle.sets.specs.Promise.{Near, Summable, PrunedTo}
 use Rattle.sets.specs.declared.Limit.{Limit as HeldLimit}
+use Rattle.sets.specs.declared.MorePairs.{MorePairs}
 use Rattle.sets.specs.declared.Outside.{Outside}
 use Rattle.sets.specs.declared.Pair.{Pair as HeldPair}
+use Rattle.sets.specs.declared.PrunedSet.{PrunedSet}
 
 abbrev pub NearChecked : ℤ → Result ℤ Outside → Type 0
 NearChecked a (Ok b) = (b ≡ a) × Within 4000000000000000000 a
@@ -44,6 +48,12 @@ abbrev pub Left : Option HeldPair → Pair → Type 0
 Left None p = Unit {0}
 Left (Some q) p = limit_of q.l <ᴸ p.l
 
-abbrev pub Chosen : List HeldPair → Option HeldPair → Option HeldPair → Type 0
-Chosen es last (Some e) = (pair_of e ∈ candidates_of es) × Left last (pair_of e) × ((p : Pair) → p ∈ candidates_of es → Left last p → Prior (pair_of e) p)
-Chosen es last None = (p : Pair) → p ∈ candidates_of es → Left last p → ⊥
+abbrev pub Chosen : List Pair → Option HeldPair → Option HeldPair → Type 0
+Chosen C last (Some e) = (pair_of e ∈ C) × Left last (pair_of e) × ((p : Pair) → p ∈ C → Left last p → Prior (pair_of e) p)
+Chosen C last None = (p : Pair) → p ∈ C → Left last p → ⊥
+
+abbrev pub Selects : List Pair → (Option HeldPair → Option HeldPair → Type 0) → Type 0
+Selects C gives = (last r : Option HeldPair) → gives last r → Chosen C last r
+
+abbrev pub PrunedBy : (Option HeldPair → Option HeldPair → Type 0) → ℕ → Result PrunedSet MorePairs → Type 0
+PrunedBy gives room r = (C : List Pair) → Selects C gives → PrunedTo C room r

@@ -1,16 +1,20 @@
 // Pruned sets of pairs: a function of a number, carried as the pairs of all paths that no other pair makes needless.
+//     Limit::from                        the limit that a number and a flag stand for
 //     PrunedSet::unit, PrunedSet::zero   pass-everything and pass-nothing
 //     Pair::then                         two pairs composed
 //     PrunedSet::value_at                the value of a set at a number
 //     prune                              the pruned set of a list of candidates, or that it has too many pairs
+//     prune_lists                        the same of candidates in four lists, of numbers and flags
 // Nothing is asked of the caller. The definitions are in specs/, their laws in proofs/.
 #![tactic(auto)]
 
 ghost use Rattle.std.specs.Prelude.{◌≡◌, ◌↔◌, min, IsTrue};
+ghost use Rattle.std.specs.Iterator.{IsFinite};
+ghost use Rattle.std.specs.Iterator.Runs.{WholeRun};
 ghost use Rattle.sets.specs.Set.{pass_everything, pass_nothing};
-ghost use Rattle.sets.specs.Held.{limit_of, pair_of, held, pairs_of, candidates_of};
+ghost use Rattle.sets.specs.Held.{limit, limit_of, pair_of, held, pairs_of, candidates_of, candidates};
 ghost use Rattle.sets.specs.Promise.{ComposedTo, Valued, PrunedTo};
-ghost use Rattle.sets.specs.Parts.{NearChecked, NumbersSummed, LimitsSummed, PairValued, Left, Chosen};
+ghost use Rattle.sets.specs.Parts.{NearChecked, NumbersSummed, LimitsSummed, PairValued, Left, Chosen, PrunedBy};
 
 // A limit of a pair. In their order `Unlimited` is above every number.
 // Kept: no Option, whose order has None below every Some.
@@ -62,6 +66,19 @@ fn sum(a: i64, b: i64) -> Result<i64, Outside>
     ensures { NumbersSummed a b result }
 {
     Ok(near(a)? + near(b)?)
+}
+
+// The limit that a number and a flag stand for: unlimited where the flag is set, whatever number stands beside it.
+impl From<(i64, bool)> for Limit {
+    ghost from_gives = { λ given result. limit_of result ≡ limit given.0 given.1 };
+
+    fn from((number, unlimited): (i64, bool)) -> Limit {
+        if unlimited {
+            Limit::Unlimited
+        } else {
+            Limit::Number(number)
+        }
+    }
 }
 
 impl Limit {
@@ -157,26 +174,57 @@ fn is_left(last: Option<Pair>, pair: Pair) -> bool
     }
 }
 
-// The candidate that is selected next, where `last` is the pair kept last: of those with a greater l than it the one with the greatest w, and among these
-// with the greatest l.
-fn next_pair(candidates: &[Pair], last: Option<Pair>) -> Option<Pair>
-    ensures { Chosen candidates.now last result }
+// Of some pairs the one that is selected next, where `last` is the pair kept last: of those with a greater l than it the one with the greatest w, and among
+// these with the greatest l.
+fn selected<I: Iterator<Item = Pair> + Drop>(pairs: I, last: Option<Pair>) -> Option<Pair>
+    requires can { I.can_next pairs }
+    requires finite { IsFinite (I.remaining pairs) }
+    ensures { WholeRun I.next_gives pairs (λ p. Chosen (candidates_of p.items) last result) }
 {
-    candidates
-        .iter()
-        .copied()
+    pairs
         .filter(|pair| is_left(last, *pair))
         .max_by_key(|pair| (pair.w, pair.l))
 }
 
-// What pruning leaves of the candidates, if that is at most `most` pairs, and at most 64.
-pub fn prune(candidates: &[Pair], most: usize) -> Result<PrunedSet, MorePairs>
-    ensures { PrunedTo (candidates_of candidates.now) (min most 64) result }
+// The candidate that is selected next.
+fn next_pair(candidates: &[Pair], last: Option<Pair>) -> Option<Pair>
+    ensures { Chosen (candidates_of candidates.now) last result }
+{
+    selected(candidates.iter().copied(), last)
+}
+
+// The same of candidates in four lists.
+fn next_of_lists(
+    ls: &[i64],
+    l_unlimited: &[bool],
+    ws: &[i64],
+    w_unlimited: &[bool],
+    last: Option<Pair>,
+) -> Option<Pair>
+    ensures { Chosen (candidates ls.now l_unlimited.now ws.now w_unlimited.now) last result }
+{
+    let count = ls
+        .len()
+        .min(l_unlimited.len())
+        .min(ws.len())
+        .min(w_unlimited.len());
+    // Kept: the four lists are read at a place. They were tried zipped, and took twice the time.
+    let pairs = (0..count).map(|i| Pair {
+        l: Limit::from((ls[i], l_unlimited[i])),
+        w: Limit::from((ws[i], w_unlimited[i])),
+    });
+    selected(pairs, last)
+}
+
+// What pruning leaves of the candidates of which `next` gives the one that is selected next, if that is at most `most` pairs, and at most 64.
+fn pruned<F: Fn(Option<Pair>) -> Option<Pair>>(next: F, most: usize) -> Result<PrunedSet, MorePairs>
+    requires { F.IsAlwaysCallable next }
+    ensures { PrunedBy (F.post next) (min most 64) result }
 {
     let room = most.min(64);
     let mut set = PrunedSet::zero();
     let mut last = None;
-    while let Some(pair) = next_pair(candidates, last) {
+    while let Some(pair) = next(last) {
         if set.count >= room {
             return Err(MorePairs);
         }
@@ -185,4 +233,28 @@ pub fn prune(candidates: &[Pair], most: usize) -> Result<PrunedSet, MorePairs>
         last = Some(pair);
     }
     Ok(set)
+}
+
+// What pruning leaves of the candidates, if that is at most `most` pairs, and at most 64.
+pub fn prune(candidates: &[Pair], most: usize) -> Result<PrunedSet, MorePairs>
+    ensures { PrunedTo (candidates_of candidates.now) (min most 64) result }
+{
+    pruned(|last| next_pair(candidates, last), most)
+}
+
+// The same of candidates in four lists: candidate i is (ls[i], ws[i]), either of them unlimited where its flag is set, whatever number stands beside it. There
+// are as many as the shortest of the lists has entries.
+pub fn prune_lists(
+    ls: &[i64],
+    l_unlimited: &[bool],
+    ws: &[i64],
+    w_unlimited: &[bool],
+    most: usize,
+) -> Result<PrunedSet, MorePairs>
+    ensures { PrunedTo (candidates ls.now l_unlimited.now ws.now w_unlimited.now) (min most 64) result }
+{
+    pruned(
+        |last| next_of_lists(ls, l_unlimited, ws, w_unlimited, last),
+        most,
+    )
 }

@@ -5,6 +5,7 @@
 --     entered_unique          two numbers of the C entry
 --     pairs_verdict_unique    the number and place of the pair program's refusal
 --     output_unique           two outputs of the pair program
+--     output_told             two answers with the same numbers are equal
 --     pairs_unique, pairs_result_unique    what two runs of it give and leave in the lent list
 --     ends_known              a text's rules name only its events
 --     written_inside          what write_pairs counts lies in the list
@@ -135,7 +136,7 @@ module _ {bs : List ℕ} where
           let m : b.refusal ≡ 0 → ⊥ = λ f. n (same.0 ∙ f) in
           (same_answer same (x.no_bytes n ∙ sym (y.no_bytes m)), x.kept n ∙ sym (y.kept m))
 
-output_told : (x y : Result ℕ Refusal) → output_numbers x ≡ output_numbers y → x ≡ y
+pub output_told : (x y : Result ℕ Refusal) → output_numbers x ≡ output_numbers y → x ≡ y
 output_told (Ok k) (Ok l) e = ap Ok (λ i. (e i).bytes)
 output_told (Ok k) (Err r) e = absurd (some_number r (λ i. (sym e i).refusal))
 output_told (Err r) (Ok l) e = absurd (some_number r (λ i. (e i).refusal))

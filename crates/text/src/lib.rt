@@ -13,7 +13,6 @@ ghost use Rattle.separation.specs.Numbers.{answer_numbers};
 ghost use Rattle.text.specs.Reading.{reading_numbers, ReadOff, RulesWritten, ShortForRules};
 ghost use Rattle.text.specs.Answers.{TextAnswered};
 ghost use Rattle.text.specs.Output.{Output, output_places, output_numbers, PairsWritten};
-ghost use Rattle.text.specs.Parts.Tabling.{TableOfText};
 ghost use Rattle.numerals.specs.Appending.{Appended};
 
 mod lines;
@@ -159,25 +158,21 @@ pub fn text_separation(text: &[u8], s: usize, t: usize) -> Result<Separated, Ref
     separation::separation(&rules.graph(found), s, t)
 }
 
-// The table of all pairs of events of a text's graph, and how many events there are.
-fn tabulate(text: &[u8], entries: &mut [i64; ENTRIES]) -> Result<usize, Refusal>
-    ensures { TableOfText text.now entries.new result }
-{
-    let mut rules = TextRules::new();
-    let found = rules.read(text)?;
-    table::fill_table(&rules.graph(found), entries)?;
-    Ok(found.events)
-}
-
-// What the pair program writes for a text, into a lent list that is long enough; gives the number of bytes.
+// What the pair program writes for a text, into a lent list that is long enough; gives the number of bytes. The text is read before the table is made, so that
+// one that is refused costs no table.
 fn put_output(text: &[u8], out: &mut [u8]) -> usize
     requires { output_places ≤ length out.old }
     ensures { (bytes : List ℕ) × Output text.now bytes × Appended out.old 0 bytes out.new result }
 {
+    let mut rules = TextRules::new();
+    let reading = match rules.read(text) {
+        Ok(reading) => reading,
+        Err(refusal) => return put_refusal(out, refusal),
+    };
     // Kept: a list of fixed size, on the stack: the project has no heap.
     let mut entries = [0i64; ENTRIES];
-    match tabulate(text, &mut entries) {
-        Ok(events) => put_pairs(out, events, &entries),
+    match table::fill_table(&rules.graph(reading), &mut entries) {
+        Ok(()) => put_pairs(out, reading.events, &entries),
         Err(refusal) => put_refusal(out, refusal),
     }
 }

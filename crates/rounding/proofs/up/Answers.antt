@@ -1,23 +1,12 @@
--- `up` meets its contract: where the number goes down on the other side of zero, it goes up on this side. Assumes nothing.
-use lib.Dec.{lit<}
-use lib.IntN.{ℤ, pos, ◌-ℤ◌}
-use Prim.Native.Nat.{ℕ, ◌≤◌}
-use mir.Syntax.{w64}
-use mir.Val.{to_z, of_z}
-use Rattle.integers.specs.Within.{Within}
-use Rattle.integers.proofs.Integer.{linear, negation}
-use Rattle.integers.proofs.Word.{read_back, within_difference}
-use Rattle.rounding.specs.Rounding.{Down, Up}
-use Rattle.rounding.proofs.Multiples.{down_negated, up_within}
+-- `up` meets its contract: where the multiple beside x lies below x, one step mends it. Assumes nothing.
+use Rattle.rounding.proofs.Outward.{step_more_fits, up_by_step, up_as_is}
 use Rattle.rounding.proofs.up.Goals as goal
 
-held : (x : ℤ) (step : ℕ) (y : ℤ) → step ≤ 1000 → Within 1000000 x → Down step (to_z w64 (of_z w64 (pos 0 -ℤ to_z w64 (of_z w64 x)))) y → Within 1000999 y →
-    Up step x (to_z w64 (of_z w64 (pos 0 -ℤ to_z w64 (of_z w64 y)))) × Within 1000999 (to_z w64 (of_z w64 (pos 0 -ℤ to_z w64 (of_z w64 y))))
-held x step y few near found inside =
-    let down : Down step (pos 0 -ℤ x) y = rw (read_back w64 1000000 x (lit< tt) near, read_back w64 1000000 (pos 0 -ℤ x) (lit< tt) (within_difference {a = 0} {x = pos 0} (record { above = omega (linear, negation (pos 0)); below = omega linear }) near)) at found in
-    let up : Up step x (pos 0 -ℤ y) = down_negated down in
-    let within : Within 1000999 (pos 0 -ℤ y) = up_within few near up in
-    rw (read_back w64 1000999 y (lit< tt) inside, read_back w64 1000999 (pos 0 -ℤ y) (lit< tt) within) (up, within)
+pub overflow_add-result : goal.overflow_add-result
+overflow_add-result c = step_more_fits c.args.step.few c.requires c.toward_zero-y.ensures
 
-pub returns : goal.returns
-returns c = held c.args.x c.args.step.ticks c.down.result c.args.step.few c.requires c.down.ensures.0 c.down.ensures.1
+pub returns-then-y-x : goal.returns-then-y-x
+returns-then-y-x c = up_by_step c.args.step.few c.requires c.toward_zero-y.ensures c.if-y-x.true
+
+pub returns-else-y-x : goal.returns-else-y-x
+returns-else-y-x c = up_as_is c.args.step.few c.requires c.toward_zero-y.ensures c.if-y-x.false

@@ -1,11 +1,8 @@
 -- The table of a text's graph, before it is written.
 --     Tabled bs entries n       == bs is a text that is not refused, of n events, and the table holds the separations of its graph
---     TableOfText bs entries x  == x is the number of events, and this holds; or x is the pair program's refusal
 -- Assumes nothing.
-use Rattle.std.specs.Prelude.{◌≡◌, Result, Ok, Err, List, ℕ, ◌≤◌, ℤ, length}
+use Rattle.std.specs.Prelude.{◌≡◌, List, ℕ, ◌≤◌, ℤ, length}
 use Rattle.graphs.specs.Limits.{EventGraph}
-use Rattle.refusals.specs.declared.Refusal.{Refusal}
-use Rattle.refusals.specs.Numbers.{number_of, place_of}
 use Rattle.table.specs.Table.{RowsFilled}
 use Rattle.text.specs.Grammar.{Rule, Text}
 use Rattle.text.specs.Reading.{events, graph_of_rules}
@@ -20,7 +17,3 @@ pub record Tabled (bs : List ℕ) (entries : List ℤ) (n : ℕ) : Type 0 where
   pub graph : EventGraph 1000000 (graph_of_rules rs)
   pub filled : RowsFilled (graph_of_rules rs) n entries
   pub verdict : PairsVerdict bs 0 0
-
-abbrev pub TableOfText : List ℕ → List ℤ → Result ℕ Refusal → Type 0
-TableOfText bs entries (Ok n) = Tabled bs entries n
-TableOfText bs entries (Err r) = PairsVerdict bs (number_of r) (place_of r)
